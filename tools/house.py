@@ -27,6 +27,7 @@ USE = {
 NAME = re.compile(r"[A-Za-z0-9_'?\-]+")
 CLAUSE = re.compile(r"\b(?:requires|ensures|invariant|decreases)\b\*?\s*(?:[A-Za-z_][\w-]*)?\s*(?=\{)")
 FUNCTION = re.compile(r"( *)(?:pub(?:\([a-z: ]+\))? )?(?:const )?fn (\w+)")
+CITED = re.compile(r"\bRattle\.(\w+)\.proofs\.(\w+)|\b(\w+)::proofs::(\w+)")
 HEADER = re.compile(r"(?:  )?(?:abbrev |unfoldable |opaque )?pub (?:record |data )?([^\s:(){}]+)(?=[\s({:])")
 
 
@@ -70,6 +71,13 @@ def uncited(sources):
     for path in sorted(it for it in tree.logic if ".specs." in it and not it.endswith(".Lib")):
         lost = {id(it): it for it in tree.module(path).defined.values() if id(it) not in seen}
         yield from (f"{os.path.relpath(it.module.file, TOP)}: {it.names[0]}" for it in lost.values())
+
+
+def shown(sources):
+    """Modules of lemmas that are public, though no other crate cites them. (The prover refuses to cite any that isn't.)"""
+    cited = {(of or other, name or inner) for it in sources for of, name, other, inner in CITED.findall(it.read) if (of or other) not in (it.crate, "crate")}
+    for it in [it for it in sources if it.path.endswith("/proofs/Lib.antt")]:
+        yield from (f"{it.path}: {name}" for name in re.findall(r"(?m)^pub mod (\w+)", it.read) if (it.crate, name) not in cited)
 
 
 def wide(sources):
@@ -139,6 +147,7 @@ def large(sources):
 LOOKS = {
     "imported names that nothing uses": unused,
     "definitions of specs/ that no clause comes to": uncited,
+    "public modules of proofs/ that no other crate cites": shown,
     f"clauses of over {WIDE} characters": wide,
     f"function bodies of over {LONG_BODY} lines": long_bodies,
     "documented names that two pages of specs/ define": ambiguous,

@@ -3,7 +3,7 @@ use Rattle.std.proofs.Common.{◌≡◌, ℕ, true, List, [], ◌∷◌}
 use Rattle.go_text.specs.declared.edition.Edition.{Edition}
 use Rattle.go_ast.specs.Trees.{conditional, no_else, File}
 use Rattle.go_ast.specs.Grammar.{Lexeme}
-use Rattle.go_ast.specs.Machine.{ListKind, fields, arguments, elements, const_specs, var_specs, type_specs, import_specs, statements, parameters, results, State, ended, token, package_name, import_path, optional, newer, operands, type, optional_type, expr, optional_expr, suffixes, operators, more_names, more_exprs, list_start, list_end, lefts, else_part, clause_start, clause_end, import_end, decl_end, step}
+use Rattle.go_ast.specs.Machine.{ListKind, fields, arguments, elements, const_specs, var_specs, type_specs, import_specs, statements, parameters, results, Reader, ended, token, package_name, import_path, optional, newer, operands, type, optional_type, expr, optional_expr, suffixes, operators, more_names, more_exprs, list_start, list_end, lefts, else_part, clause_start, clause_end, import_end, decl_end, parser_step}
 use Rattle.go_ast.proofs.Called.{operands_first, operands_back, operands_forth, operands_kept, operands_comes}
 use Rattle.go_ast.proofs.Newer.{newer_back, newer_forth, newer_kept, newer_first, newer_comes}
 use Rattle.go_ast.proofs.Means.{begins, Means, Okay, Good, After, Kept}
@@ -39,7 +39,7 @@ module _ (ed : Edition) (B : ℕ) (on : OnStmt ed B) where
   items results = result_items ed B
 
   -- what leads to a file begins as the state may begin
-  first : (s : State) (t : Lexeme) (us : List Lexeme) (f : File) → Means ed B s (t ∷ us) f → begins s t.kind ≡ true
+  first : (s : Reader) (t : Lexeme) (us : List Lexeme) (f : File) → Means ed B s (t ∷ us) f → begins s t.kind ≡ true
   first (ended g) t us f m = absurd (ended_forth ed B g t us f m)
   first (token kind need x next) t us f m = token_first ed B kind need x next t us f m
   first (package_name next) t us f m = package_name_first ed B next t us f m
@@ -65,7 +65,7 @@ module _ (ed : Edition) (B : ℕ) (on : OnStmt ed B) where
   first (import_end p iss) t us f m = import_end_first ed B p iss t us f m
   first (decl_end p is ds) t us f m = decl_end_first ed B p is ds t us f m
 
-  back : (s : State) (t : Lexeme) (us : List Lexeme) (f : File) → Okay ed B s → After ed B (step ed s t) us f → Means ed B s (t ∷ us) f
+  back : (s : Reader) (t : Lexeme) (us : List Lexeme) (f : File) → Okay ed B s → After ed B (parser_step ed s t) us f → Means ed B s (t ∷ us) f
   back (ended g) t us f ok a = absurd a
   back (token kind need x next) t us f ok a = token_back ed B kind need x next t us f a
   back (package_name next) t us f ok a = package_name_back ed B next t us f a
@@ -92,7 +92,7 @@ module _ (ed : Edition) (B : ℕ) (on : OnStmt ed B) where
   back (import_end p iss) t us f ok a = import_end_back ed B p iss t us f a
   back (decl_end p is ds) t us f ok a = decl_end_back ed B p is ds t us f a
 
-  forth : (s : State) (t : Lexeme) (us : List Lexeme) (f : File) → Okay ed B s → Means ed B s (t ∷ us) f → After ed B (step ed s t) us f
+  forth : (s : Reader) (t : Lexeme) (us : List Lexeme) (f : File) → Okay ed B s → Means ed B s (t ∷ us) f → After ed B (parser_step ed s t) us f
   forth (ended g) t us f ok m = absurd (ended_forth ed B g t us f m)
   forth (token kind need x next) t us f ok m = token_forth ed B kind need x next t us f m
   forth (package_name next) t us f ok m = package_name_forth ed B next t us f m
@@ -130,7 +130,7 @@ module _ (ed : Edition) (B : ℕ) (on : OnStmt ed B) where
   forth (import_end p iss) t us f ok m = import_end_forth ed B p iss t us f m
   forth (decl_end p is ds) t us f ok m = decl_end_forth ed B p is ds t us f m
 
-  kept : (s : State) (t : Lexeme) → Okay ed B s → Kept ed B (step ed s t)
+  kept : (s : Reader) (t : Lexeme) → Okay ed B s → Kept ed B (parser_step ed s t)
   kept (ended g) t ok = tt
   kept (token kind need x next) t ok = token_kept ed B kind need x next t ok
   kept (package_name next) t ok = package_name_kept ed B next t ok
@@ -158,7 +158,7 @@ module _ (ed : Edition) (B : ℕ) (on : OnStmt ed B) where
   kept (decl_end p is ds) t ok = decl_end_kept ed B p is ds t ok
 
   -- some tokens lead on to a file
-  comes : (s : State) → Good ed B s → (us : List Lexeme) × (f : File) × Means ed B s us f
+  comes : (s : Reader) → Good ed B s → (us : List Lexeme) × (f : File) × Means ed B s us f
   comes (ended g) ok = ended_comes ed B g
   comes (token kind need x next) ok = token_comes ed B kind need x next ok (λ t g. comes (next t) g)
   comes (package_name next) ok = package_name_comes ed B next ok (λ t g. comes (next t) g)

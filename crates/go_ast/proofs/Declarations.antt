@@ -10,7 +10,7 @@ use Rattle.go_ast.specs.Expected.{Expected, another, a_parameter_type, an_import
 use Rattle.go_ast.specs.Trees.{ConstSpec, VarSpec, TypeSpec, ImportSpec, Parameter, Decl, constants, variables, types, File}
 use Rattle.go_ast.specs.Heights.{greatest, const_height, var_height, type_spec_height, decl_height}
 use Rattle.go_ast.specs.Grammar.{Lexeme, Token, name_of, opening, closing, closing_brace, semicolon, AreItems, IsDecl}
-use Rattle.go_ast.specs.Machine.{ListKind, const_specs, var_specs, type_specs, import_specs, parameters, Item, separator, closer, State, token, import_path, type, more_names, list_start, list_end, names, const_rest, var_rest, type_rest, import_of, group, behind_const, behind_var, behind_type}
+use Rattle.go_ast.specs.Machine.{ListKind, const_specs, var_specs, type_specs, import_specs, parameters, Item, separator, closer, Reader, token, import_path, type, more_names, list_start, list_end, names, const_rest, var_rest, type_rest, import_spec_of, group, behind_const, behind_var, behind_type}
 use Rattle.go_ast.proofs.Means.{begins, IsItem, item_height, item_level, AllFit, FitItems, Means, Okay, Good}
 use Rattle.go_ast.proofs.Base.{left_true, right_true, first_is, apart}
 use Rattle.go_ast.proofs.Tokens.{same_here, no_token, token_back, token_forth, token_kept, optional_back, optional_forth, optional_kept, import_path_back, import_path_forth, import_path_kept, import_path_first}
@@ -39,14 +39,14 @@ module _ (ed : Edition) (B : ℕ) where
   fits_greatest tall l (x ∷ xs) fit = (omega (arith, fit), fits_greatest tall l xs (omega (arith, fit)))
 
   -- a group
-  pub group_back : (k : ListKind) (next : List (Item k) → State) (single : (Item k → State) → State) (us : List Lexeme) (f : File) →
+  pub group_back : (k : ListKind) (next : List (Item k) → Reader) (single : (Item k → Reader) → Reader) (us : List Lexeme) (f : File) →
       (Means ed B (single (λ s. next (s ∷ []))) us f →
       (s : Item k) × (ws : List Lexeme) × IsItem ed k s us ws × (item_level k + item_height k s ≤ B + 1) × Means ed B (next (s ∷ [])) ws f) →
       Means ed B (group k next single) us f → (ss : List (Item k)) × (ws : List Lexeme) × IsGroupOf ed k ss us ws × FitItems ed B k ss × Means ed B (next ss) ws f
   group_back k next single us f alone (inl (o, vs, opens, need, (ss, c, xs, ws, are, fit, close, m))) = (ss, ws, inr (o, c, vs, xs, opens, are, close), fit, m)
   group_back k next single us f alone (inr m) = let a = alone m in (a.0 ∷ [], a.1, inl (a.0, refl, a.2), (a.3, tt), a.4)
 
-  pub group_forth : (k : ListKind) (next : List (Item k) → State) (single : (Item k → State) → State) (ss : List (Item k)) (us ws : List Lexeme) (f : File) →
+  pub group_forth : (k : ListKind) (next : List (Item k) → Reader) (single : (Item k → Reader) → Reader) (ss : List (Item k)) (us ws : List Lexeme) (f : File) →
       ((s : Item k) → IsItem ed k s us ws → item_level k + item_height k s ≤ B + 1 → Means ed B (next (s ∷ [])) ws f → Means ed B (single (λ s. next (s ∷ []))) us f) →
       IsGroupOf ed k ss us ws → FitItems ed B k ss → Means ed B (next ss) ws f → Means ed B (group k next single) us f
   group_forth k next single ss us ws f alone (inl (s, e, is)) fit m =
@@ -55,14 +55,14 @@ module _ (ed : Edition) (B : ℕ) where
   group_forth k next single ss us ws f alone (inr (o, c, vs, xs, opens, are, close)) fit m =
       inl (o, vs, opens, omega arith, (ss, c, xs, ws, are, fit, close, m))
 
-  pub group_good : (k : ListKind) (next : List (Item k) → State) (single : (Item k → State) → State) → item_level k ≤ B + 1 →
+  pub group_good : (k : ListKind) (next : List (Item k) → Reader) (single : (Item k → Reader) → Reader) → item_level k ≤ B + 1 →
       ((ss : List (Item k)) → FitItems ed B k ss → Good ed B (next ss)) → Okay ed B (single (λ s. next (s ∷ []))) →
       begins (single (λ s. next (s ∷ []))) opening ≡ false →
       Good ed B (group k next single)
   group_good k next single low good alone apart = (inl (omega arith), ((λ t e le. (tt, (low, tt, λ is c fit. good is fit))), alone, apart))
 
   -- constants
-  pub behind_const_back : (l : ℕ) (next : Decl → State) (t : Lexeme) (us : List Lexeme) (f : File) → l ≤ B + 1 → t.kind ≡ kinds.Keyword keywords.Const →
+  pub behind_const_back : (l : ℕ) (next : Decl → Reader) (t : Lexeme) (us : List Lexeme) (f : File) → l ≤ B + 1 → t.kind ≡ kinds.Keyword keywords.Const →
       Means ed B (behind_const l next t) us f →
       (ss : List ConstSpec) × (ws : List Lexeme) × IsDecl ed (constants t.place ss) (t ∷ us) ws × (l + decl_height (constants t.place ss) ≤ B + 1)
       × Means ed B (next (constants t.place ss)) ws f
@@ -71,7 +71,7 @@ module _ (ed : Edition) (B : ℕ) where
       (const_spec_back ed B l (λ s. next (constants t.place (s ∷ []))) us f low) m in
       (r.0, r.1, (t, us, record { whole = refl; is = e }, refl, r.2), greatest_fits const_height l r.0 low r.3, r.4)
 
-  pub behind_const_forth : (l : ℕ) (next : Decl → State) (p : Place) (ss : List ConstSpec) (t : Lexeme) (us ws : List Lexeme) (f : File) →
+  pub behind_const_forth : (l : ℕ) (next : Decl → Reader) (p : Place) (ss : List ConstSpec) (t : Lexeme) (us ws : List Lexeme) (f : File) →
       IsDecl ed (constants p ss) (t ∷ us) ws → l + decl_height (constants p ss) ≤ B + 1 → Means ed B (next (constants p ss)) ws f →
       (t.kind ≡ kinds.Keyword keywords.Const) × Means ed B (behind_const l next t) us f
   behind_const_forth l next p ss t us ws f d fit m =
@@ -84,7 +84,7 @@ module _ (ed : Edition) (B : ℕ) where
             (λ s is fits n. const_spec_forth ed B l (λ x. next (constants t.place (x ∷ []))) s d.1 ws f is fits n) d.4 (fits_greatest const_height l ss fit) m1),
       )
 
-  pub behind_const_good : (l : ℕ) (next : Decl → State) (t : Lexeme) → l ≤ B + 1 → ((d : Decl) → l + decl_height d ≤ B + 1 → Good ed B (next d)) → EndsLine next →
+  pub behind_const_good : (l : ℕ) (next : Decl → Reader) (t : Lexeme) → l ≤ B + 1 → ((d : Decl) → l + decl_height d ≤ B + 1 → Good ed B (next d)) → EndsLine next →
       Good ed B (behind_const l next t)
   behind_const_good l next t low good ends =
       group_good (const_specs l) (λ ss. next (constants t.place ss)) (λ one. names 0 (const_rest l one)) low
@@ -94,7 +94,7 @@ module _ (ed : Edition) (B : ℕ) where
       (λ s k b. ends (constants t.place (s ∷ [])) k b)) refl
 
   -- variables
-  pub behind_var_back : (l : ℕ) (next : Decl → State) (t : Lexeme) (us : List Lexeme) (f : File) → l ≤ B + 1 → t.kind ≡ kinds.Keyword keywords.Var →
+  pub behind_var_back : (l : ℕ) (next : Decl → Reader) (t : Lexeme) (us : List Lexeme) (f : File) → l ≤ B + 1 → t.kind ≡ kinds.Keyword keywords.Var →
       Means ed B (behind_var l next t) us f →
       (ss : List VarSpec) × (ws : List Lexeme) × IsDecl ed (variables t.place ss) (t ∷ us) ws × (l + decl_height (variables t.place ss) ≤ B + 1)
       × Means ed B (next (variables t.place ss)) ws f
@@ -103,7 +103,7 @@ module _ (ed : Edition) (B : ℕ) where
       (var_spec_back ed B l (λ s. next (variables t.place (s ∷ []))) us f) m in
       (r.0, r.1, (t, us, record { whole = refl; is = e }, refl, r.2), greatest_fits var_height l r.0 low r.3, r.4)
 
-  pub behind_var_forth : (l : ℕ) (next : Decl → State) (p : Place) (ss : List VarSpec) (t : Lexeme) (us ws : List Lexeme) (f : File) →
+  pub behind_var_forth : (l : ℕ) (next : Decl → Reader) (p : Place) (ss : List VarSpec) (t : Lexeme) (us ws : List Lexeme) (f : File) →
       IsDecl ed (variables p ss) (t ∷ us) ws → l + decl_height (variables p ss) ≤ B + 1 → Means ed B (next (variables p ss)) ws f →
       (t.kind ≡ kinds.Keyword keywords.Var) × Means ed B (behind_var l next t) us f
   behind_var_forth l next p ss t us ws f d fit m =
@@ -116,7 +116,7 @@ module _ (ed : Edition) (B : ℕ) where
             (λ s is fits n. var_spec_forth ed B l (λ x. next (variables t.place (x ∷ []))) s d.1 ws f is fits n) d.4 (fits_greatest var_height l ss fit) m1),
       )
 
-  pub behind_var_good : (l : ℕ) (next : Decl → State) (t : Lexeme) → l ≤ B + 1 → ((d : Decl) → l + decl_height d ≤ B + 1 → Good ed B (next d)) → EndsLine next →
+  pub behind_var_good : (l : ℕ) (next : Decl → Reader) (t : Lexeme) → l ≤ B + 1 → ((d : Decl) → l + decl_height d ≤ B + 1 → Good ed B (next d)) → EndsLine next →
       Good ed B (behind_var l next t)
   behind_var_good l next t low good ends =
       group_good (var_specs l) (λ ss. next (variables t.place ss)) (λ one. names l (var_rest l one)) low
@@ -126,7 +126,7 @@ module _ (ed : Edition) (B : ℕ) where
       (λ s k b. ends (variables t.place (s ∷ [])) k b)) refl
 
   -- types
-  pub behind_type_back : (l : ℕ) (next : Decl → State) (t : Lexeme) (us : List Lexeme) (f : File) → l ≤ B + 1 → t.kind ≡ kinds.Keyword keywords.Type →
+  pub behind_type_back : (l : ℕ) (next : Decl → Reader) (t : Lexeme) (us : List Lexeme) (f : File) → l ≤ B + 1 → t.kind ≡ kinds.Keyword keywords.Type →
       Means ed B (behind_type l next t) us f →
       (ss : List TypeSpec) × (ws : List Lexeme) × IsDecl ed (types t.place ss) (t ∷ us) ws × (l + decl_height (types t.place ss) ≤ B + 1)
       × Means ed B (next (types t.place ss)) ws f
@@ -135,7 +135,7 @@ module _ (ed : Edition) (B : ℕ) where
       (type_spec_back ed B l (λ s. next (types t.place (s ∷ []))) us f) m in
       (r.0, r.1, (t, us, record { whole = refl; is = e }, refl, r.2), greatest_fits type_spec_height l r.0 low r.3, r.4)
 
-  pub behind_type_forth : (l : ℕ) (next : Decl → State) (p : Place) (ss : List TypeSpec) (t : Lexeme) (us ws : List Lexeme) (f : File) →
+  pub behind_type_forth : (l : ℕ) (next : Decl → Reader) (p : Place) (ss : List TypeSpec) (t : Lexeme) (us ws : List Lexeme) (f : File) →
       IsDecl ed (types p ss) (t ∷ us) ws → l + decl_height (types p ss) ≤ B + 1 → Means ed B (next (types p ss)) ws f →
       (t.kind ≡ kinds.Keyword keywords.Type) × Means ed B (behind_type l next t) us f
   behind_type_forth l next p ss t us ws f d fit m =
@@ -148,7 +148,7 @@ module _ (ed : Edition) (B : ℕ) where
             (λ s is fits n. type_spec_forth ed B l (λ x. next (types t.place (x ∷ []))) s d.1 ws f is fits n) d.4 (fits_greatest type_spec_height l ss fit) m1),
       )
 
-  pub behind_type_good : (l : ℕ) (next : Decl → State) (t : Lexeme) → l ≤ B + 1 → ((d : Decl) → l + decl_height d ≤ B + 1 → Good ed B (next d)) → EndsLine next →
+  pub behind_type_good : (l : ℕ) (next : Decl → Reader) (t : Lexeme) → l ≤ B + 1 → ((d : Decl) → l + decl_height d ≤ B + 1 → Good ed B (next d)) → EndsLine next →
       Good ed B (behind_type l next t)
   behind_type_good l next t low good ends =
       group_good (type_specs l) (λ ss. next (types t.place ss)) (λ one. token kinds.Name l another (type_rest l one)) low
@@ -158,16 +158,16 @@ module _ (ed : Edition) (B : ℕ) where
       (λ s k b. ends (types t.place (s ∷ [])) k b)) refl
 
   -- behind an item of a list that is good stands one
-  pub item_good : (k : ListKind) (x : Expected) (front : List (Item k)) (next : List (Item k) → Lexeme → State) (i : Item k) →
+  pub item_good : (k : ListKind) (x : Expected) (front : List (Item k)) (next : List (Item k) → Lexeme → Reader) (i : Item k) →
       Okay ed B (list_start k front next) →
       item_level k + item_height k i ≤ B + 1 → Good ed B (list_end k x (front ++ i ∷ []) next)
   item_good k x front next i ok fit = (tt, (ok.0, all_fit_append ed B (item_height k) (item_level k) front (i ∷ []) ok.1 (fit, tt), ok.2))
 
   -- what is due behind an item, and behind a parameter's first name
-  abbrev after_item : (k : ListKind) → List (Item k) → (List (Item k) → Lexeme → State) → Item k → State
+  abbrev after_item : (k : ListKind) → List (Item k) → (List (Item k) → Lexeme → Reader) → Item k → Reader
   after_item k front next i = list_end k another (front ++ i ∷ []) next
 
-  abbrev behind_parameter_name : (Parameter → State) → Lexeme → State
+  abbrev behind_parameter_name : (Parameter → Reader) → Lexeme → Reader
   behind_parameter_name next n = more_names (name_of n ∷ []) (λ ns. type 1 a_parameter_type (λ a. next (record { names = ns; type = a })))
 
   -- the items of groups, and parameters
@@ -242,14 +242,14 @@ module _ (ed : Edition) (B : ℕ) where
       }
 
   -- imports
-  abbrev behind_import : List ImportSpec → (List ImportSpec → Lexeme → State) → ImportSpec → State
+  abbrev behind_import : List ImportSpec → (List ImportSpec → Lexeme → Reader) → ImportSpec → Reader
   behind_import front next = after_item import_specs front next
 
-  abbrev named_import : List ImportSpec → (List ImportSpec → Lexeme → State) → Lexeme → State
-  named_import front next n = import_path an_import_path (λ t. behind_import front next (import_of (Some (name_of n)) n.place t))
+  abbrev named_import : List ImportSpec → (List ImportSpec → Lexeme → Reader) → Lexeme → Reader
+  named_import front next n = import_path an_import_path (λ t. behind_import front next (import_spec_of (Some (name_of n)) n.place t))
 
-  abbrev plain_import : List ImportSpec → (List ImportSpec → Lexeme → State) → Lexeme → State
-  plain_import front next t = behind_import front next (import_of None t.place t)
+  abbrev plain_import : List ImportSpec → (List ImportSpec → Lexeme → Reader) → Lexeme → Reader
+  plain_import front next t = behind_import front next (import_spec_of None t.place t)
 
   pub import_items : Items ed B import_specs
   import_items =

@@ -6,10 +6,10 @@ use Rattle.go_scan.specs.declared.token.TokenKind.TheVariants as kinds
 use Rattle.go_ast.specs.Kinds.{same}
 use Rattle.go_ast.specs.Operators.{binary_of}
 use Rattle.go_ast.specs.Expected.{Expected, an_operand, a_type, an_element_end, a_field_end, a_result_end, another}
-use Rattle.go_ast.specs.Trees.{Name, TypeExpr, Expr, name, Element, expression_element, value_element, File, pack_elements}
+use Rattle.go_ast.specs.Trees.{Name, TypeExpr, Expression, name, Element, expression_element, value_element, File, pack_elements}
 use Rattle.go_ast.specs.Heights.{height, type_height, element_height}
 use Rattle.go_ast.specs.Grammar.{Lexeme, Token, name_of, opening_brace, closing_brace, comma, colon, AreMoreNames, AreNames, IsType, IsExpr, IsKey, IsElement, AreElements}
-use Rattle.go_ast.specs.Machine.{ListKind, fields, arguments, elements, results, Item, State, optional, expr, type, more_names, list_start, list_end, Take, Fail, begins_expr, on_expr, on_item, on_element, behind_element}
+use Rattle.go_ast.specs.Machine.{ListKind, fields, arguments, elements, results, Item, Reader, optional, expr, type, more_names, list_start, list_end, Take, Fail, begins_expr, on_expr, on_item, on_element, behind_element}
 use Rattle.go_ast.proofs.Same.{are_same, is_same}
 use Rattle.go_ast.proofs.Means.{IsItem, item_height, item_level, is_tail, begins, Closes, Means, Okay, Good, After, Kept}
 use Rattle.go_ast.proofs.Base.{either_true, left_true, right_true, after_cond, kept_cond, after_same, after_other, token_here, first_is, apart}
@@ -49,15 +49,15 @@ element_first ed (Some n) e t us vs ws d x =
 
 module _ (ed : Edition) (B : ℕ) where
   -- one item more fits
-  added : (k : ListKind) (x : Expected) (front : List (Item k)) (next : List (Item k) → Lexeme → State) (i : Item k) → Okay ed B (list_start k front next) →
+  added : (k : ListKind) (x : Expected) (front : List (Item k)) (next : List (Item k) → Lexeme → Reader) (i : Item k) → Okay ed B (list_start k front next) →
       item_level k + item_height k i ≤ B + 1 → Good ed B (list_end k x (front ++ i ∷ []) next)
   added k x front next i ok fit = (tt, (ok.0, all_fit_append ed B (item_height k) (item_level k) front (i ∷ []) ok.1 (fit, tt), ok.2))
 
   -- fields
-  abbrev behind_names : (l : ℕ) → List (Item (fields l)) → (List (Item (fields l)) → Lexeme → State) → List Name → State
+  abbrev behind_names : (l : ℕ) → List (Item (fields l)) → (List (Item (fields l)) → Lexeme → Reader) → List Name → Reader
   behind_names l front next ns = type l a_type (λ a. list_end (fields l) a_field_end (front ++ (ns, a) ∷ []) next)
 
-  field_forth : (l : ℕ) (front : List (Item (fields l))) (next : List (Item (fields l)) → Lexeme → State) (t : Lexeme) (us : List Lexeme) (f : File)
+  field_forth : (l : ℕ) (front : List (Item (fields l))) (next : List (Item (fields l)) → Lexeme → Reader) (t : Lexeme) (us : List Lexeme) (f : File)
       (ns : List Name) (a : TypeExpr) (vs xs : List Lexeme) →
       AreNames ns (t ∷ us) xs → IsType ed a xs vs → l + type_height a ≤ B + 1 → Means ed B (list_end (fields l) another (front ++ (ns, a) ∷ []) next) vs f →
       After ed B (on_item (fields l) front next t) us f
@@ -115,12 +115,12 @@ module _ (ed : Edition) (B : ℕ) where
   }
 
   -- elements
-  abbrev Made : (l : ℕ) → List (Item (elements l)) → (List (Item (elements l)) → Lexeme → State) → List Lexeme → File → Type 0
+  abbrev Made : (l : ℕ) → List (Item (elements l)) → (List (Item (elements l)) → Lexeme → Reader) → List Lexeme → File → Type 0
   Made l front next us f =
       (i : Item (elements l)) × (vs : List Lexeme) × IsItem ed (elements l) i us vs × (l + element_height i.1 ≤ B + 1)
       × Means ed B (list_end (elements l) another (front ++ i ∷ []) next) vs f
 
-  pub behind_element_back : (l : ℕ) (front : List (Item (elements l))) (next : List (Item (elements l)) → Lexeme → State) (e : Expr) (us ws : List Lexeme)
+  pub behind_element_back : (l : ℕ) (front : List (Item (elements l))) (next : List (Item (elements l)) → Lexeme → Reader) (e : Expression) (us ws : List Lexeme)
       (f : File) →
       IsExpr ed 5 false e us ws → l + height e ≤ B + 1 → Means ed B (behind_element l front next e) ws f → Made l front next us f
   behind_element_back l front next (name p text) us ws f d le m = elim m [
@@ -142,19 +142,19 @@ module _ (ed : Edition) (B : ℕ) where
   behind_element_back l front next e us ws f d le m = ((None, expression_element e), ws, (us, refl, d), le, m)
 
   -- an expression without a key
-  pub behind_plain : (l : ℕ) (front : List (Item (elements l))) (next : List (Item (elements l)) → Lexeme → State) (e : Expr) (ws : List Lexeme) (f : File) →
+  pub behind_plain : (l : ℕ) (front : List (Item (elements l))) (next : List (Item (elements l)) → Lexeme → Reader) (e : Expression) (ws : List Lexeme) (f : File) →
       Means ed B (list_end (elements l) another (front ++ (None, expression_element e) ∷ []) next) ws f → Means ed B (behind_element l front next e) ws f
   behind_plain l front next (name p text) ws f m = inr m
   behind_plain l front next e ws f m = m
 
   -- what is behind a key
-  abbrev behind_key : (l : ℕ) → List (Item (elements l)) → (List (Item (elements l)) → Lexeme → State) → Option Name → State
+  abbrev behind_key : (l : ℕ) → List (Item (elements l)) → (List (Item (elements l)) → Lexeme → Reader) → Option Name → Reader
   behind_key l front next key =
       optional opening_brace l (λ o. list_start (elements (l + 1)) []
       (λ es _. list_end (elements l) an_element_end (front ++ (key, value_element o.place (pack_elements es)) ∷ []) next))
       (expr 5 false l an_operand (λ e. list_end (elements l) an_element_end (front ++ (key, expression_element e) ∷ []) next))
 
-  behind_key_forth : (l : ℕ) (front : List (Item (elements l))) (next : List (Item (elements l)) → Lexeme → State) (key : Option Name) (e : Element)
+  behind_key_forth : (l : ℕ) (front : List (Item (elements l))) (next : List (Item (elements l)) → Lexeme → Reader) (key : Option Name) (e : Element)
       (us ws : List Lexeme) (f : File) →
       IsElement ed e us ws → l + element_height e ≤ B + 1 → Means ed B (list_end (elements l) another (front ++ (key, e) ∷ []) next) ws f →
       Means ed B (behind_key l front next key) us f
@@ -180,7 +180,7 @@ module _ (ed : Edition) (B : ℕ) where
         ),
       )
 
-  behind_key_good : (l : ℕ) (front : List (Item (elements l))) (next : List (Item (elements l)) → Lexeme → State) (key : Option Name) → l ≤ B →
+  behind_key_good : (l : ℕ) (front : List (Item (elements l))) (next : List (Item (elements l)) → Lexeme → Reader) (key : Option Name) → l ≤ B →
       Okay ed B (list_start (elements l) front next) →
       Good ed B (behind_key l front next key)
   behind_key_good l front next key le ok = (
@@ -200,7 +200,7 @@ module _ (ed : Edition) (B : ℕ) where
     ),
   )
 
-  pub behind_element_good : (l : ℕ) (front : List (Item (elements l))) (next : List (Item (elements l)) → Lexeme → State) (e : Expr) →
+  pub behind_element_good : (l : ℕ) (front : List (Item (elements l))) (next : List (Item (elements l)) → Lexeme → Reader) (e : Expression) →
       Okay ed B (list_start (elements l) front next) →
       l + height e ≤ B + 1 → Good ed B (behind_element l front next e)
   behind_element_good l front next (name p text) ok le = (
@@ -213,17 +213,17 @@ module _ (ed : Edition) (B : ℕ) where
   )
   behind_element_good l front next e ok le = added (elements l) an_element_end front next (None, expression_element e) ok le
 
-  behind_element_closes : (l : ℕ) (front : List (Item (elements l))) (next : List (Item (elements l)) → Lexeme → State) (e : Expr) (k : TokenKind) →
+  behind_element_closes : (l : ℕ) (front : List (Item (elements l))) (next : List (Item (elements l)) → Lexeme → Reader) (e : Expression) (k : TokenKind) →
       begins (behind_element l front next e) k ≡ true → Closes false k
   behind_element_closes l front next (name p text) k b = key_closes k b
   behind_element_closes l front next e k b = element_closes k b
 
   -- an element that begins with a brace
-  abbrev behind_brace : (l : ℕ) → List (Item (elements l)) → (List (Item (elements l)) → Lexeme → State) → Lexeme → State
+  abbrev behind_brace : (l : ℕ) → List (Item (elements l)) → (List (Item (elements l)) → Lexeme → Reader) → Lexeme → Reader
   behind_brace l front next t =
       list_start (elements (l + 1)) [] (λ es _. list_end (elements l) an_element_end (front ++ (None, value_element t.place (pack_elements es)) ∷ []) next)
 
-  pub on_element_back : (l : ℕ) (front : List (Item (elements l))) (next : List (Item (elements l)) → Lexeme → State) (t : Lexeme) (us : List Lexeme)
+  pub on_element_back : (l : ℕ) (front : List (Item (elements l))) (next : List (Item (elements l)) → Lexeme → Reader) (t : Lexeme) (us : List Lexeme)
       (f : File) →
       After ed B (on_element l front next t) us f → Made l front next (t ∷ us) f
   on_element_back l front next t us f a =
@@ -240,7 +240,7 @@ module _ (ed : Edition) (B : ℕ) where
             behind_element_back l front next e.0 (t ∷ us) e.1 f e.2 e.3 e.4)
       ]
 
-  pub on_element_forth : (l : ℕ) (front : List (Item (elements l))) (next : List (Item (elements l)) → Lexeme → State) (t : Lexeme) (us : List Lexeme)
+  pub on_element_forth : (l : ℕ) (front : List (Item (elements l))) (next : List (Item (elements l)) → Lexeme → Reader) (t : Lexeme) (us : List Lexeme)
       (f : File) (k : Option Name) (e : Element) (xs vs : List Lexeme) →
       IsKey k (t ∷ us) xs → IsElement ed e xs vs → l + element_height e ≤ B + 1 → Means ed B (list_end (elements l) another (front ++ (k, e) ∷ []) next) vs f →
       After ed B (on_element l front next t) us f
@@ -286,7 +286,7 @@ module _ (ed : Edition) (B : ℕ) where
       element_height_positive (expression_element e) = height_positive e
       element_height_positive (value_element p es) = omega arith
 
-  pub on_element_kept : (l : ℕ) (front : List (Item (elements l))) (next : List (Item (elements l)) → Lexeme → State) (t : Lexeme) →
+  pub on_element_kept : (l : ℕ) (front : List (Item (elements l))) (next : List (Item (elements l)) → Lexeme → Reader) (t : Lexeme) →
       Okay ed B (list_start (elements l) front next) →
       Kept ed B (on_element l front next t)
   on_element_kept l front next t ok =

@@ -5,10 +5,10 @@ use Rattle.go_scan.specs.declared.token.TokenKind.{TokenKind}
 use Rattle.go_scan.specs.declared.keyword.Keyword.TheVariants as keywords
 use Rattle.go_ast.specs.Kinds.{same}
 use Rattle.go_ast.specs.Expected.{another}
-use Rattle.go_ast.specs.Trees.{Name, Decl, constants, variables, types, Function, TopLevel, declared, function, ImportSpec, File}
+use Rattle.go_ast.specs.Trees.{Name, Decl, constants, variables, types, FunctionDecl, TopLevel, declared, function, ImportSpec, File}
 use Rattle.go_ast.specs.Heights.{top_height}
 use Rattle.go_ast.specs.Grammar.{Lexeme, Token, name_of, semicolon, closing, closing_brace, IsTopLevel, AreImports, AreTopLevels, concat, Derives}
-use Rattle.go_ast.specs.Machine.{State, keyword, import_specs, import_end, decl_end, import_spec, file_of, decls_at, imports_at, start, step}
+use Rattle.go_ast.specs.Machine.{Reader, keyword, import_specs, import_end, decl_end, import_spec, to_file, decls_at, read_imports, start, parser_step}
 use Rattle.go_ast.proofs.Means.{begins, AllFit, Means, Okay, Good, After, Kept}
 use Rattle.go_ast.proofs.Base.{left_true, token_here}
 use Rattle.go_ast.proofs.Tokens.{a_token, same_here, no_token, token_back, token_forth, token_kept}
@@ -22,19 +22,19 @@ semicolon_line k e = left_true (same semicolon k || same closing k) (same closin
 module _ (ed : Edition) (B : ℕ) where
   -- declarations behind these, up to the end
   abbrev Decls : Name → List ImportSpec → List TopLevel → List Lexeme → File → Type 0
-  Decls p is ds us f = (more : List TopLevel) × AreTopLevels ed more us [] × AllFit ed B top_height 1 more × (f ≡ file_of p is (ds ++ more))
+  Decls p is ds us f = (more : List TopLevel) × AreTopLevels ed more us [] × AllFit ed B top_height 1 more × (f ≡ to_file p is (ds ++ more))
 
-  abbrev behind_decl : Name → List ImportSpec → List TopLevel → Decl → State
+  abbrev behind_decl : Name → List ImportSpec → List TopLevel → Decl → Reader
   behind_decl p is ds d = decl_end p is (ds ++ declared d ∷ [])
 
-  abbrev behind_function : Name → List ImportSpec → List TopLevel → Function → State
+  abbrev behind_function : Name → List ImportSpec → List TopLevel → FunctionDecl → Reader
   behind_function p is ds g = decl_end p is (ds ++ function g ∷ [])
 
   decl_more : (p : Name) (is : List ImportSpec) (ds : List TopLevel) (d : TopLevel) (us ws : List Lexeme) (f : File) → IsTopLevel ed d us ws →
       1 + top_height d ≤ B + 1 →
       Means ed B (decl_end p is (ds ++ d ∷ [])) ws f → Decls p is ds us f
   decl_more p is ds d us ws f top fit m =
-      (d ∷ m.2, (m.0, ws, m.1, top, m.3, m.4), (fit, m.5), m.6 ∙ ap (λ x. file_of p is x) (append_assoc ds (d ∷ []) m.2))
+      (d ∷ m.2, (m.0, ws, m.1, top, m.3, m.4), (fit, m.5), m.6 ∙ ap (λ x. to_file p is x) (append_assoc ds (d ∷ []) m.2))
 
   at_token : (k : TokenKind) (t : Lexeme) (us vs : List Lexeme) (P : List Lexeme → Type 0) → Token k t us vs → P (t ∷ vs) → P us
   at_token k t us vs P h x = subst P (sym h.whole) x
@@ -52,13 +52,13 @@ module _ (ed : Edition) (B : ℕ) where
   decls_back p is ds us f (inr (inr (inr (inl (t, vs, k, low, m))))) =
       let r = behind_func_back ed B (behind_function p is ds) t vs f k.is m in
       at_token (keyword keywords.Func) t us vs (λ x. Decls p is ds x f) k (decl_more p is ds (function r.0) (t ∷ vs) r.1 f r.2 r.3 r.4)
-  decls_back p is ds us f (inr (inr (inr (inr (none, e))))) = ([], none, tt, e ∙ ap (λ x. file_of p is x) (sym (append-nil ds)))
+  decls_back p is ds us f (inr (inr (inr (inr (none, e))))) = ([], none, tt, e ∙ ap (λ x. to_file p is x) (sym (append-nil ds)))
 
   -- behind a declaration
   decl_end_made : (p : Name) (is : List ImportSpec) (ds : List TopLevel) (d : TopLevel) (more : List TopLevel) (s : Lexeme) (vs ws : List Lexeme) (f : File) →
-      Token semicolon s vs ws → AreTopLevels ed more ws [] → AllFit ed B top_height 1 more → f ≡ file_of p is (ds ++ d ∷ more) →
+      Token semicolon s vs ws → AreTopLevels ed more ws [] → AllFit ed B top_height 1 more → f ≡ to_file p is (ds ++ d ∷ more) →
       Means ed B (decl_end p is (ds ++ d ∷ [])) vs f
-  decl_end_made p is ds d more s vs ws f semi are fit e = (s, ws, more, semi, are, fit, e ∙ ap (λ x. file_of p is x) (sym (append_assoc ds (d ∷ []) more)))
+  decl_end_made p is ds d more s vs ws f semi are fit e = (s, ws, more, semi, are, fit, e ∙ ap (λ x. to_file p is x) (sym (append_assoc ds (d ∷ []) more)))
 
   top_forth : (p : Name) (is : List ImportSpec) (ds : List TopLevel) (d : TopLevel) (us vs : List Lexeme) (f : File) → IsTopLevel ed d us vs →
       1 + top_height d ≤ B + 1 →
@@ -79,8 +79,8 @@ module _ (ed : Edition) (B : ℕ) where
 
   decls_forth : (p : Name) (is : List ImportSpec) (ds more : List TopLevel) (us : List Lexeme) (f : File) → AreTopLevels ed more us [] →
       AllFit ed B top_height 1 more →
-      f ≡ file_of p is (ds ++ more) → Means ed B (decls_at p is ds) us f
-  decls_forth p is ds [] us f are fit e = inr (inr (inr (inr (are, e ∙ ap (λ x. file_of p is x) (append-nil ds)))))
+      f ≡ to_file p is (ds ++ more) → Means ed B (decls_at p is ds) us f
+  decls_forth p is ds [] us f are fit e = inr (inr (inr (inr (are, e ∙ ap (λ x. to_file p is x) (append-nil ds)))))
   decls_forth p is ds (d ∷ more) us f (s, vs, ws, top, semi, are) fit e =
       top_forth p is ds d us vs f top fit.0 (decl_end_made p is ds d more s vs ws f semi are fit.1 e)
 
@@ -103,18 +103,18 @@ module _ (ed : Edition) (B : ℕ) where
   )
 
   pub decl_end_back : (p : Name) (is : List ImportSpec) (ds : List TopLevel) (t : Lexeme) (us : List Lexeme) (f : File) →
-      After ed B (step ed (decl_end p is ds) t) us f → Means ed B (decl_end p is ds) (t ∷ us) f
+      After ed B (parser_step ed (decl_end p is ds) t) us f → Means ed B (decl_end p is ds) (t ∷ us) f
   decl_end_back p is ds t us f a =
       let m = token_back ed B semicolon 0 another (λ _. decls_at p is ds) t us f a in
       let r = decls_back p is ds m.1 f m.4 in
       (m.0, m.1, r.0, m.2, r.1, r.2, r.3)
 
   pub decl_end_forth : (p : Name) (is : List ImportSpec) (ds : List TopLevel) (t : Lexeme) (us : List Lexeme) (f : File) →
-      Means ed B (decl_end p is ds) (t ∷ us) f → After ed B (step ed (decl_end p is ds) t) us f
+      Means ed B (decl_end p is ds) (t ∷ us) f → After ed B (parser_step ed (decl_end p is ds) t) us f
   decl_end_forth p is ds t us f m =
       token_forth ed B semicolon 0 another (λ _. decls_at p is ds) t us f (m.0, m.1, m.3, omega arith, decls_forth p is ds m.2 m.1 f m.4 m.5 m.6)
 
-  pub decl_end_kept : (p : Name) (is : List ImportSpec) (ds : List TopLevel) (t : Lexeme) → Okay ed B (decl_end p is ds) → Kept ed B (step ed (decl_end p is ds) t)
+  pub decl_end_kept : (p : Name) (is : List ImportSpec) (ds : List TopLevel) (t : Lexeme) → Okay ed B (decl_end p is ds) → Kept ed B (parser_step ed (decl_end p is ds) t)
   decl_end_kept p is ds t one = token_kept ed B semicolon 0 another (λ _. decls_at p is ds) t (λ s e le. decls_good p is ds one)
 
   pub decl_end_first : (p : Name) (is : List ImportSpec) (ds : List TopLevel) (t : Lexeme) (us : List Lexeme) (f : File) →
@@ -122,7 +122,7 @@ module _ (ed : Edition) (B : ℕ) where
   decl_end_first p is ds t us f m = same_here semicolon t m.0 us m.1 m.3
 
   pub decl_end_comes : (p : Name) (is : List ImportSpec) (ds : List TopLevel) → (us : List Lexeme) × (f : File) × Means ed B (decl_end p is ds) us f
-  decl_end_comes p is ds = let s = a_token semicolon in (s ∷ [], file_of p is (ds ++ []), (s, [], [], token_here semicolon s [] refl, refl, tt, refl))
+  decl_end_comes p is ds = let s = a_token semicolon in (s ∷ [], to_file p is (ds ++ []), (s, [], [], token_here semicolon s [] refl, refl, tt, refl))
 
   pub decl_end_never : (p : Name) (is : List ImportSpec) (ds : List TopLevel) (f : File) → Means ed B (decl_end p is ds) [] f → ⊥
   decl_end_never p is ds f m = no_token semicolon m.0 m.1 m.3
@@ -131,28 +131,28 @@ module _ (ed : Edition) (B : ℕ) where
   abbrev Imports : Name → List (List ImportSpec) → List Lexeme → File → Type 0
   Imports p iss us f =
       (more : List (List ImportSpec)) × (ds : List TopLevel) × (xs : List Lexeme) × AreImports more us xs × AreTopLevels ed ds xs [] × AllFit ed B top_height 1 ds
-      × (f ≡ file_of p (concat (iss ++ more)) ds)
+      × (f ≡ to_file p (concat (iss ++ more)) ds)
 
-  abbrev behind_import : Name → List (List ImportSpec) → List ImportSpec → State
+  abbrev behind_import : Name → List (List ImportSpec) → List ImportSpec → Reader
   behind_import p iss is = import_end p (iss ++ is ∷ [])
 
-  imports_back : (p : Name) (iss : List (List ImportSpec)) (us : List Lexeme) (f : File) → Means ed B (imports_at p iss) us f → Imports p iss us f
+  imports_back : (p : Name) (iss : List (List ImportSpec)) (us : List Lexeme) (f : File) → Means ed B (read_imports p iss) us f → Imports p iss us f
   imports_back p iss us f (inl (t, vs, k, low, m)) =
       let g = group_back ed B import_specs (behind_import p iss) import_spec vs f (import_spec_back ed B (λ i. behind_import p iss (i ∷ [])) vs f) m in
       let r = g.4 in
-      (g.0 ∷ r.3, r.4, r.2, (t, r.0, vs, g.1, r.1, k, g.2, r.5, r.6), r.7, r.8, r.9 ∙ ap (λ x. file_of p (concat x) r.4) (append_assoc iss (g.0 ∷ []) r.3))
+      (g.0 ∷ r.3, r.4, r.2, (t, r.0, vs, g.1, r.1, k, g.2, r.5, r.6), r.7, r.8, r.9 ∙ ap (λ x. to_file p (concat x) r.4) (append_assoc iss (g.0 ∷ []) r.3))
   imports_back p iss us f (inr m) =
       let r = decls_back p (concat iss) [] us f m in
-      ([], r.0, us, refl, r.1, r.2, r.3 ∙ ap (λ x. file_of p (concat x) r.0) (sym (append-nil iss)))
+      ([], r.0, us, refl, r.1, r.2, r.3 ∙ ap (λ x. to_file p (concat x) r.0) (sym (append-nil iss)))
 
   imports_forth : (p : Name) (iss more : List (List ImportSpec)) (ds : List TopLevel) (us xs : List Lexeme) (f : File) → AreImports more us xs →
       AreTopLevels ed ds xs [] →
-      AllFit ed B top_height 1 ds → f ≡ file_of p (concat (iss ++ more)) ds → Means ed B (imports_at p iss) us f
+      AllFit ed B top_height 1 ds → f ≡ to_file p (concat (iss ++ more)) ds → Means ed B (read_imports p iss) us f
   imports_forth p iss [] ds us xs f are top fit e =
-      inr (decls_forth p (concat iss) [] ds us f (subst (λ x. AreTopLevels ed ds x []) (sym are) top) fit (e ∙ ap (λ x. file_of p (concat x) ds) (append-nil iss)))
+      inr (decls_forth p (concat iss) [] ds us f (subst (λ x. AreTopLevels ed ds x []) (sym are) top) fit (e ∙ ap (λ x. to_file p (concat x) ds) (append-nil iss)))
   imports_forth p iss (is ∷ more) ds us xs f (k, s, vs, ws, ys, key, g, semi, are) top fit e =
       let rest : Means ed B (behind_import p iss is) ws f =
-      (s, ys, xs, more, ds, semi, are, top, fit, e ∙ ap (λ x. file_of p (concat x) ds) (sym (append_assoc iss (is ∷ []) more))) in
+      (s, ys, xs, more, ds, semi, are, top, fit, e ∙ ap (λ x. to_file p (concat x) ds) (sym (append_assoc iss (is ∷ []) more))) in
       inl (
         k,
         vs,
@@ -166,7 +166,7 @@ module _ (ed : Edition) (B : ℕ) where
       all_low [] = tt
       all_low (i ∷ is) = (omega arith, all_low is)
 
-  imports_good : (p : Name) (iss : List (List ImportSpec)) → 1 ≤ B → Good ed B (imports_at p iss)
+  imports_good : (p : Name) (iss : List (List ImportSpec)) → 1 ≤ B → Good ed B (read_imports p iss)
   imports_good p iss one = (
     inl (omega arith),
     (
@@ -178,19 +178,19 @@ module _ (ed : Edition) (B : ℕ) where
   )
 
   pub import_end_back : (p : Name) (iss : List (List ImportSpec)) (t : Lexeme) (us : List Lexeme) (f : File) →
-      After ed B (step ed (import_end p iss) t) us f → Means ed B (import_end p iss) (t ∷ us) f
+      After ed B (parser_step ed (import_end p iss) t) us f → Means ed B (import_end p iss) (t ∷ us) f
   import_end_back p iss t us f a =
-      let m = token_back ed B semicolon 0 another (λ _. imports_at p iss) t us f a in
+      let m = token_back ed B semicolon 0 another (λ _. read_imports p iss) t us f a in
       let r = imports_back p iss m.1 f m.4 in
       (m.0, m.1, r.2, r.0, r.1, m.2, r.3, r.4, r.5, r.6)
 
   pub import_end_forth : (p : Name) (iss : List (List ImportSpec)) (t : Lexeme) (us : List Lexeme) (f : File) →
-      Means ed B (import_end p iss) (t ∷ us) f → After ed B (step ed (import_end p iss) t) us f
+      Means ed B (import_end p iss) (t ∷ us) f → After ed B (parser_step ed (import_end p iss) t) us f
   import_end_forth p iss t us f m =
-      token_forth ed B semicolon 0 another (λ _. imports_at p iss) t us f (m.0, m.1, m.5, omega arith, imports_forth p iss m.3 m.4 m.1 m.2 f m.6 m.7 m.8 m.9)
+      token_forth ed B semicolon 0 another (λ _. read_imports p iss) t us f (m.0, m.1, m.5, omega arith, imports_forth p iss m.3 m.4 m.1 m.2 f m.6 m.7 m.8 m.9)
 
-  pub import_end_kept : (p : Name) (iss : List (List ImportSpec)) (t : Lexeme) → Okay ed B (import_end p iss) → Kept ed B (step ed (import_end p iss) t)
-  import_end_kept p iss t one = token_kept ed B semicolon 0 another (λ _. imports_at p iss) t (λ s e le. imports_good p iss one)
+  pub import_end_kept : (p : Name) (iss : List (List ImportSpec)) (t : Lexeme) → Okay ed B (import_end p iss) → Kept ed B (parser_step ed (import_end p iss) t)
+  import_end_kept p iss t one = token_kept ed B semicolon 0 another (λ _. read_imports p iss) t (λ s e le. imports_good p iss one)
 
   pub import_end_first : (p : Name) (iss : List (List ImportSpec)) (t : Lexeme) (us : List Lexeme) (f : File) →
       Means ed B (import_end p iss) (t ∷ us) f → begins (import_end p iss) t.kind ≡ true
@@ -198,7 +198,7 @@ module _ (ed : Edition) (B : ℕ) where
 
   pub import_end_comes : (p : Name) (iss : List (List ImportSpec)) → (us : List Lexeme) × (f : File) × Means ed B (import_end p iss) us f
   import_end_comes p iss =
-      let s = a_token semicolon in (s ∷ [], file_of p (concat (iss ++ [])) [], (s, [], [], [], [], token_here semicolon s [] refl, refl, refl, tt, refl))
+      let s = a_token semicolon in (s ∷ [], to_file p (concat (iss ++ [])) [], (s, [], [], [], [], token_here semicolon s [] refl, refl, refl, tt, refl))
 
   pub import_end_never : (p : Name) (iss : List (List ImportSpec)) (f : File) → Means ed B (import_end p iss) [] f → ⊥
   import_end_never p iss f m = no_token semicolon m.0 m.1 m.5
@@ -207,7 +207,7 @@ module _ (ed : Edition) (B : ℕ) where
   pub start_back : (ts : List Lexeme) (f : File) → Means ed B start ts f → Derives ed B ts f
   start_back ts f (k, vs, key, low, (t, xs, named, ne, (s, ys, semi, low', m))) =
       let r = imports_back (name_of t) [] ys f m in
-      let made : File = file_of (name_of t) (concat r.0) r.1 in
+      let made : File = to_file (name_of t) (concat r.0) r.1 in
       let d : Derives ed B ts made =
       record {
         derived = (k, t, s, vs, xs, ys, r.2, r.0, key, named, ne, refl, semi, r.3, refl, r.4);
@@ -218,8 +218,8 @@ module _ (ed : Edition) (B : ℕ) where
   pub start_forth : (ts : List Lexeme) (f : File) → Derives ed B ts f → Means ed B start ts f
   start_forth ts f d =
       let g = d.derived in
-      let all : f ≡ file_of (name_of g.1) (concat g.7) f.declarations =
-      ap (λ x. file_of x f.imports f.declarations) g.11 ∙ ap (λ x. file_of (name_of g.1) x f.declarations) g.14 in
+      let all : f ≡ to_file (name_of g.1) (concat g.7) f.declarations =
+      ap (λ x. to_file x f.imports f.declarations) g.11 ∙ ap (λ x. to_file (name_of g.1) x f.declarations) g.14 in
       let fit : AllFit ed B top_height 1 f.declarations = fits_greatest ed B top_height 1 f.declarations (omega (arith, d.fits)) in (
         g.0,
         g.3,

@@ -6,10 +6,10 @@ use Rattle.go_scan.specs.declared.token.TokenKind.{TokenKind}
 use Rattle.go_scan.specs.declared.keyword.Keyword.TheVariants as keywords
 use Rattle.go_ast.specs.Kinds.{same}
 use Rattle.go_ast.specs.Expected.{an_operand, another}
-use Rattle.go_ast.specs.Trees.{Name, Expr, Simple, call_statement, Stmt, for_statement, range_statement, Block, block, File}
+use Rattle.go_ast.specs.Trees.{Name, Expression, Simple, call_statement, Statement, for_statement, range_statement, Block, block, File}
 use Rattle.go_ast.specs.Heights.{height, lifted, simple_height, block_height, stmt_height}
 use Rattle.go_ast.specs.Grammar.{Lexeme, Token, define, semicolon, opening_brace, IsExpr, IsExpr?, IsSimple?, IsForHead, IsRangeName, IsBlock, IsStmt, is_short_var_decl}
-use Rattle.go_ast.specs.Machine.{in_for, behind_turns, State, token, keyword, name_if, names_if, block_at, for_body, for_turns, for_condition, range_body, behind_for}
+use Rattle.go_ast.specs.Machine.{in_for, behind_turns, Reader, token, keyword, name_if, names_if, read_block, for_body, for_turns, for_condition, range_body, behind_for}
 use Rattle.go_ast.proofs.Same.{are_same}
 use Rattle.go_ast.proofs.Means.{continues, Closes, Means, Good, Ends}
 use Rattle.go_ast.proofs.Base.{false_true, token_here}
@@ -21,7 +21,7 @@ use Rattle.go_ast.proofs.Ifs.{brace_closes, semicolon_ends, block_first}
 use Rattle.go_ast.proofs.Levels.{height_positive}
 
 -- the name in front of a `range`
-one_name : (e : Expr) (n : Name) → names_if (e ∷ []) ≡ Some (n ∷ []) → e ≡ name_expr n
+one_name : (e : Expression) (n : Name) → names_if (e ∷ []) ≡ Some (n ∷ []) → e ≡ name_expr n
 one_name e n q =
     let s = push_split (name_if e) (Some []) (n ∷ []) q in
     let c : n ∷ [] ≡ s.0 ∷ s.1 = s.4 in
@@ -38,12 +38,12 @@ turns_end k e =
 
 module _ (ed : Edition) (B : ℕ) where
   -- the third part and the block
-  abbrev Turns : ℕ → Place → (Stmt → State) → Option Simple → Option Expr → List Lexeme → File → Type 0
+  abbrev Turns : ℕ → Place → (Statement → Reader) → Option Simple → Option Expression → List Lexeme → File → Type 0
   Turns l p next i c us f =
       (n : Option Simple) × (b : Block) × (xs ws : List Lexeme) × IsSimple? ed n us xs × ((s : Simple) → n ≡ Some s → is_short_var_decl s ≡ false) × IsBlock ed b xs ws
       × (l + stmt_height (for_statement p i c n b) ≤ B + 1) × Means ed B (next (for_statement p i c n b)) ws f
 
-  turns_back : (l : ℕ) (p : Place) (next : Stmt → State) (i : Option Simple) (c : Option Expr) (us : List Lexeme) (f : File) →
+  turns_back : (l : ℕ) (p : Place) (next : Statement → Reader) (i : Option Simple) (c : Option Expression) (us : List Lexeme) (f : File) →
       l + 1 + lifted simple_height i ≤ B + 1 → l + 1 + lifted height c ≤ B + 1 → Means ed B (for_turns l p next i c) us f → Turns l p next i c us f
   turns_back l p next i c us f hi hc m = elim m [
     | inl a ↦ (let g = open_block_back ed B (l + 1) (for_body l p next i c None) a.0 us a.1 f a.2 a.3 a.4 in
@@ -69,21 +69,21 @@ module _ (ed : Edition) (B : ℕ) where
   ]
 
   -- the condition and what is behind it
-  abbrev Condition : ℕ → Place → (Stmt → State) → Option Simple → List Lexeme → File → Type 0
+  abbrev Condition : ℕ → Place → (Statement → Reader) → Option Simple → List Lexeme → File → Type 0
   Condition l p next i us f =
-      (c : Option Expr) × (r : Lexeme) × (xs ys : List Lexeme) × IsExpr? ed c us xs × Token semicolon r xs ys × Turns l p next i c ys f
+      (c : Option Expression) × (r : Lexeme) × (xs ys : List Lexeme) × IsExpr? ed c us xs × Token semicolon r xs ys × Turns l p next i c ys f
 
-  condition_back : (l : ℕ) (p : Place) (next : Stmt → State) (i : Option Simple) (us : List Lexeme) (f : File) →
+  condition_back : (l : ℕ) (p : Place) (next : Statement → Reader) (i : Option Simple) (us : List Lexeme) (f : File) →
       l + 1 + lifted simple_height i ≤ B + 1 → Means ed B (for_condition l p next i) us f → Condition l p next i us f
   condition_back l p next i us f hi m = elim m [
     | inl a ↦ (None, a.0, us, a.1, refl, a.2, turns_back l p next i None a.1 f hi (omega (arith, hi)) a.4)
     | inr a ↦ (Some a.0, a.4.0, a.1, a.4.1, a.2, a.4.2, turns_back l p next i (Some a.0) a.4.1 f hi a.3 a.4.4)
   ]
 
-  abbrev ForRead : ℕ → (Stmt → State) → List Lexeme → File → Type 0
-  ForRead l next us f = (s : Stmt) × (ws : List Lexeme) × IsStmt ed s us ws × (l + stmt_height s ≤ B + 1) × Means ed B (next s) ws f
+  abbrev ForRead : ℕ → (Statement → Reader) → List Lexeme → File → Type 0
+  ForRead l next us f = (s : Statement) × (ws : List Lexeme) × IsStmt ed s us ws × (l + stmt_height s ≤ B + 1) × Means ed B (next s) ws f
 
-  with_condition : (l : ℕ) (next : Stmt → State) (t : Lexeme) (i : Option Simple) (s : Lexeme) (us vs xs : List Lexeme) (f : File) →
+  with_condition : (l : ℕ) (next : Statement → Reader) (t : Lexeme) (i : Option Simple) (s : Lexeme) (us vs xs : List Lexeme) (f : File) →
       t.kind ≡ keyword keywords.For →
       IsSimple? ed i us vs → Token semicolon s vs xs → Condition l t.place next i xs f → ForRead l next (t ∷ us) f
   with_condition l next t i s us vs xs f k start semi g =
@@ -95,7 +95,7 @@ module _ (ed : Edition) (B : ℕ) where
         h.8,
       )
 
-  ranged : (l : ℕ) (next : Stmt → State) (t : Lexeme) (n : Option Name) (r : Lexeme) (e : Expr) (us xs ys zs : List Lexeme) (f : File) →
+  ranged : (l : ℕ) (next : Statement → Reader) (t : Lexeme) (n : Option Name) (r : Lexeme) (e : Expression) (us xs ys zs : List Lexeme) (f : File) →
       t.kind ≡ keyword keywords.For →
       IsRangeName n us xs → Token (keyword keywords.Range) r xs ys → IsExpr ed 5 true e ys zs → l + 1 + height e ≤ B + 1 →
       Means ed B (range_body l t.place next n e) zs f → ForRead l next (t ∷ us) f
@@ -108,13 +108,13 @@ module _ (ed : Edition) (B : ℕ) where
         g.4,
       )
 
-  range_name : (e : Expr) (n : Name) (d : Lexeme) (us vs xs : List Lexeme) → IsExpr ed 5 true e us vs → names_if (e ∷ []) ≡ Some (n ∷ []) → Token define d vs xs →
+  range_name : (e : Expression) (n : Name) (d : Lexeme) (us vs xs : List Lexeme) → IsExpr ed 5 true e us vs → names_if (e ∷ []) ≡ Some (n ∷ []) → Token define d vs xs →
       IsRangeName (Some n) us xs
   range_name e n d us vs xs is q k =
       let r = name_read ed true n us vs (subst (λ x. IsExpr ed 5 true x us vs) (one_name e n q) is) in
       (r.0, d, vs, r.1, r.2, k)
 
-  pub for_back : (l : ℕ) (next : Stmt → State) (t : Lexeme) (us : List Lexeme) (f : File) → t.kind ≡ keyword keywords.For → Means ed B (behind_for l next t) us f →
+  pub for_back : (l : ℕ) (next : Statement → Reader) (t : Lexeme) (us : List Lexeme) (f : File) → t.kind ≡ keyword keywords.For → Means ed B (behind_for l next t) us f →
       l ≤ B → ForRead l next (t ∷ us) f
   for_back l next t us f k m low = elim m [
     | inl a ↦ (let g = open_block_back ed B (l + 1) (for_body l t.place next None None None) a.0 us a.1 f a.2 a.3 a.4 in (
@@ -149,7 +149,7 @@ module _ (ed : Edition) (B : ℕ) where
   ]
 
   -- the other way round
-  turns_forth : (l : ℕ) (p : Place) (next : Stmt → State) (i : Option Simple) (c : Option Expr) (n : Option Simple) (b : Block) (us xs ws : List Lexeme)
+  turns_forth : (l : ℕ) (p : Place) (next : Statement → Reader) (i : Option Simple) (c : Option Expression) (n : Option Simple) (b : Block) (us xs ws : List Lexeme)
       (f : File) →
       IsSimple? ed n us xs → ((s : Simple) → n ≡ Some s → is_short_var_decl s ≡ false) → IsBlock ed b xs ws → l + stmt_height (for_statement p i c n b) ≤ B + 1 →
       Means ed B (next (for_statement p i c n b)) ws f → Means ed B (for_turns l p next i c) us f
@@ -172,7 +172,7 @@ module _ (ed : Edition) (B : ℕ) where
         ),
       )
 
-  condition_forth : (l : ℕ) (p : Place) (next : Stmt → State) (i : Option Simple) (c : Option Expr) (n : Option Simple) (b : Block) (r : Lexeme)
+  condition_forth : (l : ℕ) (p : Place) (next : Statement → Reader) (i : Option Simple) (c : Option Expression) (n : Option Simple) (b : Block) (r : Lexeme)
       (us xs ys zs ws : List Lexeme) (f : File) →
       IsExpr? ed c us xs → Token semicolon r xs ys → IsSimple? ed n ys zs → ((s : Simple) → n ≡ Some s → is_short_var_decl s ≡ false) → IsBlock ed b zs ws →
       l + stmt_height (for_statement p i c n b) ≤ B + 1 → Means ed B (next (for_statement p i c n b)) ws f → Means ed B (for_condition l p next i) us f
@@ -181,7 +181,7 @@ module _ (ed : Edition) (B : ℕ) where
   condition_forth l p next i (Some c) n b r us xs ys zs ws f d k q never e le m =
       inr (c, xs, d, omega (arith, le), (r, ys, k, omega arith, turns_forth l p next i (Some c) n b ys zs ws f q never e le m))
 
-  plain_forth : (l : ℕ) (next : Stmt → State) (t : Lexeme) (c : Option Expr) (b : Block) (us xs ws : List Lexeme) (f : File) → IsExpr? ed c us xs →
+  plain_forth : (l : ℕ) (next : Statement → Reader) (t : Lexeme) (c : Option Expression) (b : Block) (us xs ws : List Lexeme) (f : File) → IsExpr? ed c us xs →
       IsBlock ed b xs ws →
       l + 1 + lifted height c ≤ B + 1 → l + 1 + block_height b ≤ B + 1 → Means ed B (next (for_statement t.place None c None b)) ws f →
       Means ed B (behind_for l next t) us f
@@ -202,7 +202,7 @@ module _ (ed : Edition) (B : ℕ) where
         )),
       )))
 
-  head_forth : (l : ℕ) (next : Stmt → State) (t : Lexeme) (i : Option Simple) (c : Option Expr) (n : Option Simple) (b : Block) (us xs ws : List Lexeme)
+  head_forth : (l : ℕ) (next : Statement → Reader) (t : Lexeme) (i : Option Simple) (c : Option Expression) (n : Option Simple) (b : Block) (us xs ws : List Lexeme)
       (f : File) →
       IsForHead ed i c n us xs → IsBlock ed b xs ws → l + stmt_height (for_statement t.place i c n b) ≤ B + 1 → Means ed B (next (for_statement t.place i c n b)) ws f →
       Means ed B (behind_for l next t) us f
@@ -234,7 +234,7 @@ module _ (ed : Edition) (B : ℕ) where
         ),
       )))
 
-  range_forth : (l : ℕ) (next : Stmt → State) (t : Lexeme) (n : Option Name) (e : Expr) (b : Block) (r : Lexeme) (us xs ys zs ws : List Lexeme) (f : File) →
+  range_forth : (l : ℕ) (next : Statement → Reader) (t : Lexeme) (n : Option Name) (e : Expression) (b : Block) (r : Lexeme) (us xs ys zs ws : List Lexeme) (f : File) →
       IsRangeName n us xs → Token (keyword keywords.Range) r xs ys → IsExpr ed 5 true e ys zs → IsBlock ed b zs ws →
       l + stmt_height (range_statement t.place n e b) ≤ B + 1 →
       Means ed B (next (range_statement t.place n e b)) ws f → Means ed B (behind_for l next t) us f
@@ -270,10 +270,10 @@ module _ (ed : Edition) (B : ℕ) where
         )),
       )))
 
-  abbrev ForTaken : ℕ → (Stmt → State) → List Lexeme → File → Type 0
+  abbrev ForTaken : ℕ → (Statement → Reader) → List Lexeme → File → Type 0
   ForTaken l next us f = (t : Lexeme) × (vs : List Lexeme) × Token (keyword keywords.For) t us vs × (l + 1 ≤ B) × Means ed B (behind_for l next t) vs f
 
-  pub for_forth : (l : ℕ) (next : Stmt → State) (p : Place) (i : Option Simple) (c : Option Expr) (n : Option Simple) (b : Block) (us ws : List Lexeme)
+  pub for_forth : (l : ℕ) (next : Statement → Reader) (p : Place) (i : Option Simple) (c : Option Expression) (n : Option Simple) (b : Block) (us ws : List Lexeme)
       (f : File) →
       IsStmt ed (for_statement p i c n b) us ws → l + stmt_height (for_statement p i c n b) ≤ B + 1 → Means ed B (next (for_statement p i c n b)) ws f →
       ForTaken l next us f
@@ -285,7 +285,7 @@ module _ (ed : Edition) (B : ℕ) where
     head_forth l next d.0 i c n b d.1 d.2 ws f d.5 d.6 le (subst (λ x. Means ed B (next (for_statement x i c n b)) ws f) d.4 m),
   )
 
-  pub for_range_forth : (l : ℕ) (next : Stmt → State) (p : Place) (n : Option Name) (e : Expr) (b : Block) (us ws : List Lexeme) (f : File) →
+  pub for_range_forth : (l : ℕ) (next : Statement → Reader) (p : Place) (n : Option Name) (e : Expression) (b : Block) (us ws : List Lexeme) (f : File) →
       IsStmt ed (range_statement p n e b) us ws → l + stmt_height (range_statement p n e b) ≤ B + 1 → Means ed B (next (range_statement p n e b)) ws f →
       ForTaken l next us f
   for_range_forth l next p n e b us ws f d le m = (
@@ -297,24 +297,24 @@ module _ (ed : Edition) (B : ℕ) where
   )
 
   -- it is good
-  turns_good : (l : ℕ) (p : Place) (next : Stmt → State) (i : Option Simple) (c : Option Expr) → l + 1 ≤ B → l + 1 + lifted simple_height i ≤ B + 1 →
+  turns_good : (l : ℕ) (p : Place) (next : Statement → Reader) (i : Option Simple) (c : Option Expression) → l + 1 ≤ B → l + 1 + lifted simple_height i ≤ B + 1 →
       l + 1 + lifted height c ≤ B + 1 →
-      ((s : Stmt) → l + stmt_height s ≤ B + 1 → Good ed B (next s)) → Good ed B (for_turns l p next i c)
+      ((s : Statement) → l + stmt_height s ≤ B + 1 → Good ed B (next s)) → Good ed B (for_turns l p next i c)
   turns_good l p next i c le hi hc good = (
     inl le,
     (
       (λ o k need. open_block_good ed B (l + 1) (for_body l p next i c None) o le (λ b fit. good (for_statement p i c None b) (omega (arith, hi, hc, fit)))),
-      (left_good ed B behind_turns true (l + 1) (λ s. block_at (l + 1) (for_body l p next i c (Some s)))
-          (λ a. block_at (l + 1) (for_body l p next i c (Some (call_statement a))))
-          (λ n a. block_at (l + 1) (for_body l p next i c (Some (call_statement a)))) an_operand le
+      (left_good ed B behind_turns true (l + 1) (λ s. read_block (l + 1) (for_body l p next i c (Some s)))
+          (λ a. read_block (l + 1) (for_body l p next i c (Some (call_statement a))))
+          (λ n a. read_block (l + 1) (for_body l p next i c (Some (call_statement a)))) an_operand le
           (λ s low. block_good ed B (l + 1) (for_body l p next i c (Some s)) le (λ b fit. good (for_statement p i c (Some s) b) (omega (arith, hi, hc, fit, low))))
           (λ s k b. turns_end k b) (λ never. refl) (λ never. absurd (false_true never)) (λ never. absurd (false_true never))).1,
       refl,
     ),
   )
 
-  condition_good : (l : ℕ) (p : Place) (next : Stmt → State) (i : Option Simple) → l + 1 ≤ B → l + 1 + lifted simple_height i ≤ B + 1 →
-      ((s : Stmt) → l + stmt_height s ≤ B + 1 → Good ed B (next s)) → Good ed B (for_condition l p next i)
+  condition_good : (l : ℕ) (p : Place) (next : Statement → Reader) (i : Option Simple) → l + 1 ≤ B → l + 1 + lifted simple_height i ≤ B + 1 →
+      ((s : Statement) → l + stmt_height s ≤ B + 1 → Good ed B (next s)) → Good ed B (for_condition l p next i)
   condition_good l p next i le hi good = (
     inl (omega arith),
     (
@@ -327,14 +327,14 @@ module _ (ed : Edition) (B : ℕ) where
     ),
   )
 
-  range_good : (l : ℕ) (p : Place) (next : Stmt → State) (n : Option Name) → l + 1 ≤ B → ((s : Stmt) → l + stmt_height s ≤ B + 1 → Good ed B (next s)) →
-      ((e : Expr) → l + 1 + height e ≤ B + 1 → Good ed B (range_body l p next n e)) × Ends ed B 5 true (range_body l p next n)
+  range_good : (l : ℕ) (p : Place) (next : Statement → Reader) (n : Option Name) → l + 1 ≤ B → ((s : Statement) → l + stmt_height s ≤ B + 1 → Good ed B (next s)) →
+      ((e : Expression) → l + 1 + height e ≤ B + 1 → Good ed B (range_body l p next n e)) × Ends ed B 5 true (range_body l p next n)
   range_good l p next n le good = (
     (λ e low. block_good ed B (l + 1) (λ b. next (range_statement p n e b)) le (λ b fit. good (range_statement p n e b) (omega (arith, low, fit)))),
     ends_if ed B 5 true (range_body l p next n) (λ e k b. brace_closes k b),
   )
 
-  pub for_good : (l : ℕ) (next : Stmt → State) (t : Lexeme) → l + 1 ≤ B → ((s : Stmt) → l + stmt_height s ≤ B + 1 → Good ed B (next s)) →
+  pub for_good : (l : ℕ) (next : Statement → Reader) (t : Lexeme) → l + 1 ≤ B → ((s : Statement) → l + stmt_height s ≤ B + 1 → Good ed B (next s)) →
       Good ed B (behind_for l next t)
   for_good l next t le good = (
     inl le,
@@ -346,7 +346,7 @@ module _ (ed : Edition) (B : ℕ) where
         (
           (λ _ k need. (le, range_good l t.place next None le good)),
           (left_good ed B in_for true (l + 1) (λ s. token semicolon 0 another (λ _. for_condition l t.place next (Some s)))
-              (λ c. block_at (l + 1) (for_body l t.place next None (Some c) None)) (λ n a. range_body l t.place next (Some n) a) an_operand le
+              (λ c. read_block (l + 1) (for_body l t.place next None (Some c) None)) (λ n a. range_body l t.place next (Some n) a) an_operand le
               (λ s low. (omega arith, (λ _ k need. condition_good l t.place next (Some s) le low good))) (λ s k b. semicolon_ends k b) (λ _. refl)
               (λ _ c low. block_good ed B (l + 1) (for_body l t.place next None (Some c) None) le
               (λ b fit. good (for_statement t.place None (Some c) None b) (omega (arith, fit, low))))

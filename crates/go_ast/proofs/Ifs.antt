@@ -6,10 +6,10 @@ use Rattle.go_scan.specs.declared.token.TokenKind.{TokenKind}
 use Rattle.go_scan.specs.declared.keyword.Keyword.TheVariants as keywords
 use Rattle.go_ast.specs.Kinds.{same}
 use Rattle.go_ast.specs.Expected.{an_operand, another}
-use Rattle.go_ast.specs.Trees.{Expr, Simple, If, conditional, Else, no_else, else_block, else_if, Block, block, File}
+use Rattle.go_ast.specs.Trees.{Expression, Simple, If, conditional, Else, no_else, else_block, else_if, Block, block, File}
 use Rattle.go_ast.specs.Heights.{height, lifted, simple_height, if_height, else_height}
 use Rattle.go_ast.specs.Grammar.{Lexeme, Token, semicolon, opening_brace, IsExpr, IsStart, IsBlock, IsIf, IsElse}
-use Rattle.go_ast.specs.Machine.{in_header, State, token, else_part, keyword, block_at, if_condition, behind_if, behind_else, step}
+use Rattle.go_ast.specs.Machine.{in_header, Reader, token, else_part, keyword, read_block, if_condition, behind_if, behind_else, parser_step}
 use Rattle.go_ast.proofs.Same.{are_same, not_same}
 use Rattle.go_ast.proofs.Means.{begins, continues, Closes, IsFirst, Means, Okay, Good, After, Kept}
 use Rattle.go_ast.proofs.Base.{false_true, left_true, right_true, after_cond, kept_cond, after_same, after_other, token_here, first_is, apart}
@@ -37,30 +37,30 @@ if_height_positive (conditional p s c b r) = omega (arith, height_positive c)
 
 module _ (ed : Edition) (B : ℕ) where
   -- the condition, the first block and what is behind it
-  abbrev Rest : ℕ → Place → (If → State) → Option Simple → List Lexeme → File → Type 0
+  abbrev Rest : ℕ → Place → (If → Reader) → Option Simple → List Lexeme → File → Type 0
   Rest l p next i us f =
-      (c : Expr) × (b : Block) × (r : Else) × (xs ys ws : List Lexeme) × IsExpr ed 5 true c us xs × IsBlock ed b xs ys × IsElse ed r ys ws
+      (c : Expression) × (b : Block) × (r : Else) × (xs ys ws : List Lexeme) × IsExpr ed 5 true c us xs × IsBlock ed b xs ys × IsElse ed r ys ws
       × (l + if_height (conditional p i c b r) ≤ B + 1) × Means ed B (next (conditional p i c b r)) ws f
 
-  behind_block : (l : ℕ) (p : Place) (next : If → State) (i : Option Simple) (c : Expr) (us xs : List Lexeme) (f : File) → IsExpr ed 5 true c us xs →
-      Means ed B (block_at (l + 1) (λ b. else_part l p i c b next)) xs f → Rest l p next i us f
+  behind_block : (l : ℕ) (p : Place) (next : If → Reader) (i : Option Simple) (c : Expression) (us xs : List Lexeme) (f : File) → IsExpr ed 5 true c us xs →
+      Means ed B (read_block (l + 1) (λ b. else_part l p i c b next)) xs f → Rest l p next i us f
   behind_block l p next i c us xs f d m =
       let g = block_back ed B (l + 1) (λ b. else_part l p i c b next) xs f m in
       (c, g.0, g.4.0, xs, g.1, g.4.1, d, g.2, g.4.2, g.4.3, g.4.4)
 
-  condition_back : (l : ℕ) (p : Place) (next : If → State) (i : Option Simple) (us : List Lexeme) (f : File) → Means ed B (if_condition l p next i) us f →
+  condition_back : (l : ℕ) (p : Place) (next : If → Reader) (i : Option Simple) (us : List Lexeme) (f : File) → Means ed B (if_condition l p next i) us f →
       Rest l p next i us f
   condition_back l p next i us f m = behind_block l p next i m.0 us m.1 f m.2 m.4
 
-  abbrev IfRead : ℕ → (If → State) → List Lexeme → File → Type 0
+  abbrev IfRead : ℕ → (If → Reader) → List Lexeme → File → Type 0
   IfRead l next us f = (i : If) × (ws : List Lexeme) × IsIf ed i us ws × (l + if_height i ≤ B + 1) × Means ed B (next i) ws f
 
-  with_start : (l : ℕ) (t : Lexeme) (next : If → State) (i : Option Simple) (us vs : List Lexeme) (f : File) → t.kind ≡ keyword keywords.If → IsStart ed i us vs →
+  with_start : (l : ℕ) (t : Lexeme) (next : If → Reader) (i : Option Simple) (us vs : List Lexeme) (f : File) → t.kind ≡ keyword keywords.If → IsStart ed i us vs →
       Rest l t.place next i vs f → IfRead l next (t ∷ us) f
   with_start l t next i us vs f k start g =
       (conditional t.place i g.0 g.1 g.2, g.5, (t, us, vs, g.3, g.4, token_here (keyword keywords.If) t us k, refl, start, g.6, g.7, g.8), g.9, g.10)
 
-  pub if_back : (l : ℕ) (next : If → State) (t : Lexeme) (us : List Lexeme) (f : File) → t.kind ≡ keyword keywords.If → Means ed B (behind_if l next t) us f →
+  pub if_back : (l : ℕ) (next : If → Reader) (t : Lexeme) (us : List Lexeme) (f : File) → t.kind ≡ keyword keywords.If → Means ed B (behind_if l next t) us f →
       IfRead l next (t ∷ us) f
   if_back l next t us f k m = elim m [
     | inl a ↦ with_start l t next None us a.1 f k (inr (a.0, a.2)) (condition_back l t.place next None a.1 f a.4)
@@ -75,13 +75,13 @@ module _ (ed : Edition) (B : ℕ) where
     ]
   ]
 
-  condition_forth : (l : ℕ) (p : Place) (next : If → State) (i : Option Simple) (c : Expr) (b : Block) (r : Else) (us xs ys ws : List Lexeme) (f : File) →
+  condition_forth : (l : ℕ) (p : Place) (next : If → Reader) (i : Option Simple) (c : Expression) (b : Block) (r : Else) (us xs ys ws : List Lexeme) (f : File) →
       IsExpr ed 5 true c us xs → IsBlock ed b xs ys → IsElse ed r ys ws → l + if_height (conditional p i c b r) ≤ B + 1 → Means ed B (next (conditional p i c b r)) ws f →
       Means ed B (if_condition l p next i) us f
   condition_forth l p next i c b r us xs ys ws f d e q le m =
       (c, xs, d, omega (arith, le), block_forth ed B (l + 1) (λ b. else_part l p i c b next) b xs ys f e (omega (arith, le)) (r, ws, q, le, m))
 
-  start_forth : (l : ℕ) (t : Lexeme) (next : If → State) (i : Option Simple) (c : Expr) (b : Block) (r : Else) (us vs xs ys ws : List Lexeme) (f : File) →
+  start_forth : (l : ℕ) (t : Lexeme) (next : If → Reader) (i : Option Simple) (c : Expression) (b : Block) (r : Else) (us vs xs ys ws : List Lexeme) (f : File) →
       IsStart ed i us vs →
       IsExpr ed 5 true c vs xs → IsBlock ed b xs ys → IsElse ed r ys ws → l + if_height (conditional t.place i c b r) ≤ B + 1 →
       Means ed B (next (conditional t.place i c b r)) ws f →
@@ -120,39 +120,39 @@ module _ (ed : Edition) (B : ℕ) where
         ),
       )
 
-  pub if_forth : (l : ℕ) (next : If → State) (i : If) (us ws : List Lexeme) (f : File) → IsIf ed i us ws → l + if_height i ≤ B + 1 → Means ed B (next i) ws f →
+  pub if_forth : (l : ℕ) (next : If → Reader) (i : If) (us ws : List Lexeme) (f : File) → IsIf ed i us ws → l + if_height i ≤ B + 1 → Means ed B (next i) ws f →
       (t : Lexeme) × (vs : List Lexeme) × Token (keyword keywords.If) t us vs × Means ed B (behind_if l next t) vs f
   if_forth l next (conditional p i c b r) us ws f d le m =
       (d.0, d.1, d.5, start_forth l d.0 next i c b r d.1 d.2 d.3 d.4 ws f d.7 d.8 d.9 d.10 le (subst (λ x. Means ed B (next (conditional x i c b r)) ws f) d.6 m))
 
   -- it is good
-  condition_block : (l : ℕ) (p : Place) (next : If → State) (i : Option Simple) (c : Expr) → l + 1 ≤ B → l + 1 + lifted simple_height i ≤ B + 1 →
+  condition_block : (l : ℕ) (p : Place) (next : If → Reader) (i : Option Simple) (c : Expression) → l + 1 ≤ B → l + 1 + lifted simple_height i ≤ B + 1 →
       l + 1 + height c ≤ B + 1 →
       ((x : If) → l + if_height x ≤ B + 1 → Good ed B (next x)) → ((x : If) → begins (next x) (keyword keywords.Else) ≡ false) →
-      Good ed B (block_at (l + 1) (λ b. else_part l p i c b next))
+      Good ed B (read_block (l + 1) (λ b. else_part l p i c b next))
   condition_block l p next i c le fits fit good apart =
       block_good ed B (l + 1) (λ b. else_part l p i c b next) le
       (λ b low. (tt, (le, omega (arith, fits, fit, low), (λ r x. good (conditional p i c b r) x), (λ r. apart (conditional p i c b r)))))
 
-  condition_good : (l : ℕ) (p : Place) (next : If → State) (i : Option Simple) → l + 1 ≤ B → l + 1 + lifted simple_height i ≤ B + 1 →
+  condition_good : (l : ℕ) (p : Place) (next : If → Reader) (i : Option Simple) → l + 1 ≤ B → l + 1 + lifted simple_height i ≤ B + 1 →
       ((x : If) → l + if_height x ≤ B + 1 → Good ed B (next x)) → ((x : If) → begins (next x) (keyword keywords.Else) ≡ false) → Good ed B (if_condition l p next i)
   condition_good l p next i le fits good apart = (
     le,
     (
       (λ c fit. condition_block l p next i c le fits fit good apart),
-      ends_if ed B 5 true (λ c. block_at (l + 1) (λ b. else_part l p i c b next))
+      ends_if ed B 5 true (λ c. read_block (l + 1) (λ b. else_part l p i c b next))
           (λ e k b. brace_closes k b),
     ),
   )
 
-  pub if_good : (l : ℕ) (next : If → State) (t : Lexeme) → l + 1 ≤ B → ((x : If) → l + if_height x ≤ B + 1 → Good ed B (next x)) →
+  pub if_good : (l : ℕ) (next : If → Reader) (t : Lexeme) → l + 1 ≤ B → ((x : If) → l + if_height x ≤ B + 1 → Good ed B (next x)) →
       ((x : If) → begins (next x) (keyword keywords.Else) ≡ false) → Good ed B (behind_if l next t)
   if_good l next t le good apart = (
     inl (omega arith),
     (
       (λ _ k need. condition_good l t.place next None le (omega (arith, le)) good apart),
       (left_good ed B in_header true (l + 1) (λ s. token semicolon 0 another (λ _. if_condition l t.place next (Some s)))
-          (λ c. block_at (l + 1) (λ b. else_part l t.place None c b next)) (λ n a. if_condition l t.place next None) an_operand le
+          (λ c. read_block (l + 1) (λ b. else_part l t.place None c b next)) (λ n a. if_condition l t.place next None) an_operand le
           (λ s fit. (omega arith, (λ _ k need. condition_good l t.place next (Some s) le fit good apart))) (λ s k b. semicolon_ends k b) (λ _. refl)
           (λ _ c fit. condition_block l t.place next None c le (omega (arith, le)) fit good apart) (λ never. absurd (false_true never))).1,
       refl,
@@ -160,7 +160,7 @@ module _ (ed : Edition) (B : ℕ) where
   )
 
   -- what is behind `else`
-  else_back : (l : ℕ) (next : Else → State) (t : Lexeme) (us : List Lexeme) (f : File) → t.kind ≡ keyword keywords.Else → Means ed B (behind_else l next) us f →
+  else_back : (l : ℕ) (next : Else → Reader) (t : Lexeme) (us : List Lexeme) (f : File) → t.kind ≡ keyword keywords.Else → Means ed B (behind_else l next) us f →
       (r : Else) × (ws : List Lexeme) × IsElse ed r (t ∷ us) ws × (l + 1 + else_height r ≤ B + 1) × Means ed B (next r) ws f
   else_back l next t us f k m = elim m [
     | inl a ↦ (let g = if_back (l + 1) (λ i. next (else_if i)) a.0 a.1 f a.2.is a.4 in
@@ -169,7 +169,7 @@ module _ (ed : Edition) (B : ℕ) where
         (else_block g.0, g.1, (t, us, token_here (keyword keywords.Else) t us k, g.2), g.3, g.4))
   ]
 
-  else_good : (l : ℕ) (next : Else → State) → l + 1 ≤ B → ((r : Else) → l + 1 + else_height r ≤ B + 1 → Good ed B (next r)) →
+  else_good : (l : ℕ) (next : Else → Reader) → l + 1 ≤ B → ((r : Else) → l + 1 + else_height r ≤ B + 1 → Good ed B (next r)) →
       ((r : Else) → begins (next r) (keyword keywords.Else) ≡ false) → Good ed B (behind_else l next)
   else_good l next le good apart = (
     inr le,
@@ -181,13 +181,13 @@ module _ (ed : Edition) (B : ℕ) where
   )
 
   -- what is behind an `if`'s first block
-  module _ (l : ℕ) (p : Place) (i : Option Simple) (c : Expr) (b : Block) (next : If → State) where
+  module _ (l : ℕ) (p : Place) (i : Option Simple) (c : Expression) (b : Block) (next : If → Reader) where
     abbrev whole : Else → If
     whole r = conditional p i c b r
 
     pub else_part_back : (t : Lexeme) (us : List Lexeme) (f : File) → Okay ed B (else_part l p i c b next) →
-        (Okay ed B (next (whole no_else)) → After ed B (step ed (next (whole no_else)) t) us f → Means ed B (next (whole no_else)) (t ∷ us) f) →
-        After ed B (step ed (else_part l p i c b next) t) us f → Means ed B (else_part l p i c b next) (t ∷ us) f
+        (Okay ed B (next (whole no_else)) → After ed B (parser_step ed (next (whole no_else)) t) us f → Means ed B (next (whole no_else)) (t ∷ us) f) →
+        After ed B (parser_step ed (else_part l p i c b next) t) us f → Means ed B (else_part l p i c b next) (t ∷ us) f
     else_part_back t us f ok by_next a = elim (after_cond ed B (same (keyword keywords.Else) t.kind) _ _ us f a) [
       | inl d ↦ (let g = else_back l (λ r. next (whole r)) t us f (are_same (keyword keywords.Else) t.kind d.0) d.1.1 in
           let low = ok.1 in (g.0, g.1, g.2, omega (arith, low, g.3), g.4))
@@ -195,9 +195,9 @@ module _ (ed : Edition) (B : ℕ) where
     ]
 
     none_forth : (t : Lexeme) (us : List Lexeme) (f : File) → Okay ed B (else_part l p i c b next) →
-        (Okay ed B (next (whole no_else)) → Means ed B (next (whole no_else)) (t ∷ us) f → After ed B (step ed (next (whole no_else)) t) us f) →
+        (Okay ed B (next (whole no_else)) → Means ed B (next (whole no_else)) (t ∷ us) f → After ed B (parser_step ed (next (whole no_else)) t) us f) →
         (Means ed B (next (whole no_else)) (t ∷ us) f → begins (next (whole no_else)) t.kind ≡ true) →
-        Means ed B (next (whole no_else)) (t ∷ us) f → After ed B (step ed (else_part l p i c b next) t) us f
+        Means ed B (next (whole no_else)) (t ∷ us) f → After ed B (parser_step ed (else_part l p i c b next) t) us f
     none_forth t us f ok by_next first m =
         after_other ed B (keyword keywords.Else) t _ _ us f
         (not_same (keyword keywords.Else) t.kind (λ k. false_true (sym (ok.3 no_else) ∙ ap (begins (next (whole no_else))) (sym k) ∙ first m)))
@@ -205,7 +205,7 @@ module _ (ed : Edition) (B : ℕ) where
 
     some_forth : (t : Lexeme) (us : List Lexeme) (f : File) (r : Else) (ws : List Lexeme) → IsElse ed r (t ∷ us) ws → l + if_height (whole r) ≤ B + 1 →
         Means ed B (next (whole r)) ws f → Okay ed B (else_part l p i c b next) →
-        (Means ed B (next (whole no_else)) (t ∷ us) f → After ed B (step ed (else_part l p i c b next) t) us f) → After ed B (step ed (else_part l p i c b next) t) us f
+        (Means ed B (next (whole no_else)) (t ∷ us) f → After ed B (parser_step ed (else_part l p i c b next) t) us f) → After ed B (parser_step ed (else_part l p i c b next) t) us f
     some_forth t us f no_else ws d le m ok otherwise = otherwise (subst (λ x. Means ed B (next (whole no_else)) x f) (sym d) m)
     some_forth t us f (else_block x) ws d le m ok otherwise =
         let k = first_is (keyword keywords.Else) t d.0 us d.1 d.2 in
@@ -220,13 +220,13 @@ module _ (ed : Edition) (B : ℕ) where
         after_same ed B (keyword keywords.Else) t _ _ us f k.2 (omega arith, inl (g.0, g.1, g.2, omega (arith, le, if_height_positive x), g.3))
 
     pub else_part_forth : (t : Lexeme) (us : List Lexeme) (f : File) → Okay ed B (else_part l p i c b next) →
-        (Okay ed B (next (whole no_else)) → Means ed B (next (whole no_else)) (t ∷ us) f → After ed B (step ed (next (whole no_else)) t) us f) →
+        (Okay ed B (next (whole no_else)) → Means ed B (next (whole no_else)) (t ∷ us) f → After ed B (parser_step ed (next (whole no_else)) t) us f) →
         (Means ed B (next (whole no_else)) (t ∷ us) f → begins (next (whole no_else)) t.kind ≡ true) →
-        Means ed B (else_part l p i c b next) (t ∷ us) f → After ed B (step ed (else_part l p i c b next) t) us f
+        Means ed B (else_part l p i c b next) (t ∷ us) f → After ed B (parser_step ed (else_part l p i c b next) t) us f
     else_part_forth t us f ok by_next first m = some_forth t us f m.0 m.1 m.2 m.3 m.4 ok (none_forth t us f ok by_next first)
 
-    pub else_part_kept : (t : Lexeme) → Okay ed B (else_part l p i c b next) → (Okay ed B (next (whole no_else)) → Kept ed B (step ed (next (whole no_else)) t)) →
-        Kept ed B (step ed (else_part l p i c b next) t)
+    pub else_part_kept : (t : Lexeme) → Okay ed B (else_part l p i c b next) → (Okay ed B (next (whole no_else)) → Kept ed B (parser_step ed (next (whole no_else)) t)) →
+        Kept ed B (parser_step ed (else_part l p i c b next) t)
     else_part_kept t ok by_next =
         kept_cond ed B (same (keyword keywords.Else) t.kind) _ _
         (λ _ need. else_good l (λ r. next (whole r)) ok.0 (λ r fit. ok.2 r (let low = ok.1 in omega (arith, low, fit))) ok.3)

@@ -9,7 +9,7 @@ use Rattle.go_ast.specs.Kinds.{same}
 use Rattle.go_ast.specs.Expected.{Expected, an_operand, a_value, a_length, an_index, a_type, a_declared_type, a_parameter_type, an_element_end, a_field_end, a_result_end, behind_a_jump, an_index_end, a_selected_name, a_function_name, a_function_opening, another, is_left_out_at}
 use Rattle.go_ast.specs.Trees.{TypeExpr, call_statement, conditional, no_else}
 use Rattle.go_ast.specs.Grammar.{Lexeme, assign, comma, is_call}
-use Rattle.go_ast.specs.Machine.{ListKind, fields, arguments, elements, const_specs, var_specs, type_specs, import_specs, statements, parameters, results, separator, closer, State, ended, token, package_name, import_path, optional, type, optional_type, expr, optional_expr, suffixes, operators, more_names, more_exprs, list_start, list_end, lefts, else_part, clause_start, clause_end, import_end, decl_end, keyword, behind_left, newer, operands}
+use Rattle.go_ast.specs.Machine.{ListKind, fields, arguments, elements, const_specs, var_specs, type_specs, import_specs, statements, parameters, results, separator, closer, Reader, ended, token, package_name, import_path, optional, type, optional_type, expr, optional_expr, suffixes, operators, more_names, more_exprs, list_start, list_end, lefts, else_part, clause_start, clause_end, import_end, decl_end, keyword, behind_left, newer, operands}
 use Rattle.go_ast.proofs.Base.{false_true, either_false}
 use Rattle.go_ast.proofs.LeftOutStates.{Last, other, name_last, names, passed, first_name, func_name, bracket, equals, keyed, nameable, is_end, starts, start_label, label, pick, TokenOk, OptionalOk, TypeOk, OptionalTypeOk, ExprOk, EndOk, Right, under, bounded}
 use Rattle.go_ast.proofs.LeftOutLabels.{by_call, call_end, or_right, token_starts}
@@ -25,7 +25,7 @@ abbrev a_struct : TokenKind
 a_struct = keyword keywords.Struct
 
 -- the name is the last token, a type may come, and no other name
-abbrev pub Declares : (ed : Edition) → Last → State → Type 0
+abbrev pub Declares : (ed : Edition) → Last → Reader → Type 0
 Declares ed p s = (p ≡ name_last) × (starts ed s a_struct ≡ true) × (starts ed s comma ≡ false)
 
 pub not_end : {A : Type 0} (p : Last) → is_end p ≡ true → p ≡ name_last → A
@@ -44,7 +44,7 @@ under_not _ p e q = not_end p e q
 off : {A : Type 0} (x : Expected) → is_declared x ≡ false → is_declared x ≡ true → A
 off x e q = absurd (false_true (sym e ∙ q))
 
-token_declared : (ed : Edition) → (x : Expected) (p : Last) (kind : TokenKind) (next : Lexeme → State) → TokenOk ed p kind x next → is_declared x ≡ false
+token_declared : (ed : Edition) → (x : Expected) (p : Last) (kind : TokenKind) (next : Lexeme → Reader) → TokenOk ed p kind x next → is_declared x ≡ false
 token_declared ed another p kind next h = refl
 token_declared ed an_index_end p kind next h = refl
 token_declared ed a_selected_name p kind next h = refl
@@ -52,14 +52,14 @@ token_declared ed a_function_name p kind next h = refl
 token_declared ed a_function_opening p kind next h = refl
 token_declared ed _ p kind next h = absurd h
 
-type_declared : (ed : Edition) → (l : ℕ) (p : Last) (x : Expected) (next : TypeExpr → State) → TypeOk ed p x next → is_declared x ≡ true → Declares ed p (type l x next)
+type_declared : (ed : Edition) → (l : ℕ) (p : Last) (x : Expected) (next : TypeExpr → Reader) → TypeOk ed p x next → is_declared x ≡ true → Declares ed p (type l x next)
 type_declared ed l other a_type next h q = absurd (false_true q)
 type_declared ed l names a_type next h q = absurd (false_true q)
 type_declared ed l names a_parameter_type next h q = absurd (false_true q)
 type_declared ed l name_last a_declared_type next h q = (refl, refl, refl)
 type_declared ed l _ _ next h q = absurd h
 
-pub optional_type_end : (ed : Edition) → (p : Last) (x : Expected) (some : TypeExpr → State) (none : State) → OptionalTypeOk ed p x some none → is_end p ≡ true
+pub optional_type_end : (ed : Edition) → (p : Last) (x : Expected) (some : TypeExpr → Reader) (none : Reader) → OptionalTypeOk ed p x some none → is_end p ≡ true
 optional_type_end ed other a_type some none h = refl
 optional_type_end ed names a_type some none h = refl
 optional_type_end ed _ _ some none h = absurd h
@@ -91,7 +91,7 @@ list_declared import_specs another p h = refl
 list_declared parameters another p h = refl
 list_declared _ _ p h = absurd h
 
-pub alias_to : (ed : Edition) → (s : State) (p : Last) → Right ed s p → is_declared (label s assign) ≡ true → Declares ed p s
+pub alias_to : (ed : Edition) → (s : Reader) (p : Last) → Right ed s p → is_declared (label s assign) ≡ true → Declares ed p s
 alias_to ed (ended f) p r q = absurd (false_true q)
 alias_to ed (token kind need x next) p r q = off x (token_declared ed x p kind next r.0) q
 alias_to ed (package_name next) p r q = absurd (false_true q)
@@ -143,25 +143,25 @@ is_named _ = false
 pub not_named : {A : Type 0} (p : Last) → p ≡ other → is_named p ≡ true → A
 not_named p e n = absurd (false_true (sym (ap is_named e) ∙ n))
 
-pub under_named : (ed : Edition) → (k : TokenKind) (p : Last) (some : Lexeme → State) (none : State) → OptionalOk ed p k some none → is_named p ≡ true → is_named (under k p) ≡ true
+pub under_named : (ed : Edition) → (k : TokenKind) (p : Last) (some : Lexeme → Reader) (none : Reader) → OptionalOk ed p k some none → is_named p ≡ true → is_named (under k p) ≡ true
 under_named ed kinds.Name p some none h n = not_named p h.2.3 n
 under_named ed (kinds.Punctuation marks.Colon) p some none h n = refl
 under_named ed (kinds.Punctuation marks.CloseBracket) p some none h n = not_named p h.2.2 n
 under_named ed _ p some none h n = n
 
-type_named : (ed : Edition) → (p : Last) (x : Expected) (next : TypeExpr → State) → TypeOk ed p x next → is_named p ≡ true → is_declared x ≡ true
+type_named : (ed : Edition) → (p : Last) (x : Expected) (next : TypeExpr → Reader) → TypeOk ed p x next → is_named p ≡ true → is_declared x ≡ true
 type_named ed other a_type next h n = absurd (false_true n)
 type_named ed names a_type next h n = absurd (false_true n)
 type_named ed names a_parameter_type next h n = absurd (false_true n)
 type_named ed name_last a_declared_type next h n = refl
 type_named ed _ _ next h n = absurd h
 
-optional_type_named : (ed : Edition) → {A : Type 0} (p : Last) (x : Expected) (some : TypeExpr → State) (none : State) → OptionalTypeOk ed p x some none → is_named p ≡ true → A
+optional_type_named : (ed : Edition) → {A : Type 0} (p : Last) (x : Expected) (some : TypeExpr → Reader) (none : Reader) → OptionalTypeOk ed p x some none → is_named p ≡ true → A
 optional_type_named ed other a_type some none h n = absurd (false_true n)
 optional_type_named ed names a_type some none h n = absurd (false_true n)
 optional_type_named ed _ _ some none h n = absurd h
 
-pub expr_named : (ed : Edition) → {A : Type 0} (p : Last) (x : Expected) (s : State) → ExprOk ed p x s → is_named p ≡ true → A
+pub expr_named : (ed : Edition) → {A : Type 0} (p : Last) (x : Expected) (s : Reader) → ExprOk ed p x s → is_named p ≡ true → A
 expr_named ed other an_operand s h n = absurd (false_true n)
 expr_named ed equals a_value s h n = absurd (false_true n)
 expr_named ed bracket a_length s h n = absurd (false_true n)
@@ -181,7 +181,7 @@ end_struct (statements l) = refl
 end_struct parameters = refl
 end_struct results = refl
 
-pub alias_from : (ed : Edition) → (s : State) (p : Last) → Right ed s p → is_named p ≡ true → starts ed s a_struct ≡ true → starts ed s comma ≡ false → is_declared (label s assign) ≡ true
+pub alias_from : (ed : Edition) → (s : Reader) (p : Last) → Right ed s p → is_named p ≡ true → starts ed s a_struct ≡ true → starts ed s comma ≡ false → is_declared (label s assign) ≡ true
 alias_from ed (ended f) p r n st co = absurd (false_true st)
 alias_from ed (token kind need x next) p r n st co = absurd (false_true (sym (token_starts ed a_struct x p kind next refl r.0) ∙ st))
 alias_from ed (package_name next) p r n st co = absurd (false_true st)

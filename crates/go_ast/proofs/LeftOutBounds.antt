@@ -9,7 +9,7 @@ use Rattle.go_ast.specs.Kinds.{same}
 use Rattle.go_ast.specs.Expected.{Expected, an_operand, a_length, a_type, an_index, is_left_out_at, a_value}
 use Rattle.go_ast.specs.Trees.{Simple, call_statement, conditional, no_else}
 use Rattle.go_ast.specs.Grammar.{Lexeme, closing_bracket, period, is_call}
-use Rattle.go_ast.specs.Machine.{ListKind, fields, arguments, elements, const_specs, var_specs, type_specs, import_specs, statements, parameters, results, State, ended, token, package_name, import_path, optional, newer, type, optional_type, expr, optional_expr, suffixes, operators, more_names, more_exprs, list_start, list_end, operands, lefts, else_part, clause_start, clause_end, import_end, decl_end, Take, Fail, cond, behind_left, literal_type, step}
+use Rattle.go_ast.specs.Machine.{ListKind, fields, arguments, elements, const_specs, var_specs, type_specs, import_specs, statements, parameters, results, Reader, ended, token, package_name, import_path, optional, newer, type, optional_type, expr, optional_expr, suffixes, operators, more_names, more_exprs, list_start, list_end, operands, lefts, else_part, clause_start, clause_end, import_end, decl_end, Take, Fail, cond, behind_left, literal_type, parser_step}
 use Rattle.go_ast.proofs.Same.{are_same}
 use Rattle.go_ast.proofs.Base.{false_true}
 use Rattle.go_ast.proofs.LeftOutStates.{Last, other, names, nameable, keyed, bracket, bounded, is_end, tok, GoesBy, Goes, start_label, label, pick, OptionalOk, OptionalKind, NewerOk, ExprOk, Right, under, equals}
@@ -24,13 +24,13 @@ use Rattle.go_ast.proofs.LeftOutPassed.{optional_goes, left_step}
 use Rattle.go_ast.proofs.LeftOutLengths.{is_indexed}
 
 -- the last token is the bracket, or one may come here; in a part of a state one may come in front of it
-abbrev pub IsIndexed : (ed : Edition) → Last → State → Type 0
+abbrev pub IsIndexed : (ed : Edition) → Last → Reader → Type 0
 IsIndexed ed p s = (p ≡ bracket) ⊎ ((p ≡ bounded) ⊎ Goes ed index_end s)
 
 off : {A : Type 0} (x : Expected) → is_indexed x ≡ false → is_indexed x ≡ true → A
 off x e q = absurd (false_true (sym e ∙ q))
 
-expr_indexed : (ed : Edition) → (p : Last) (x : Expected) (s : State) → ExprOk ed p x s → is_indexed x ≡ true → IsIndexed ed p s
+expr_indexed : (ed : Edition) → (p : Last) (x : Expected) (s : Reader) → ExprOk ed p x s → is_indexed x ≡ true → IsIndexed ed p s
 expr_indexed ed bracket an_index s h q = inl refl
 expr_indexed ed bounded an_index s h q = inr (inl refl)
 expr_indexed ed other an_operand s h q = absurd (false_true q)
@@ -38,7 +38,7 @@ expr_indexed ed equals a_value s h q = absurd (false_true q)
 expr_indexed ed bracket a_length s h q = absurd (false_true q)
 expr_indexed ed _ _ s h q = absurd h
 
-newer_indexed : (ed : Edition) → (p : Last) (kind : TokenKind) (x : Expected) (some : Lexeme → State) (s : State) → NewerOk ed p kind x some → is_indexed x ≡ true →
+newer_indexed : (ed : Edition) → (p : Last) (kind : TokenKind) (x : Expected) (some : Lexeme → Reader) (s : Reader) → NewerOk ed p kind x some → is_indexed x ≡ true →
     IsIndexed ed p s
 newer_indexed ed p kind an_index some s h q = inl h.0
 newer_indexed ed p kind _ some s h q = absurd (false_true q)
@@ -68,7 +68,7 @@ under_bounded (kinds.Punctuation marks.Colon) p e n q = let c : keyed ≡ bounde
 under_bounded (kinds.Punctuation marks.CloseBracket) p e n q = false_true (sym n)
 under_bounded _ p e n q = false_true (sym (ap is_end q) ∙ e)
 
-optional_indexed : (ed : Edition) → (kind : TokenKind) (p : Last) (need : ℕ) (some : Lexeme → State) (none : State) → OptionalOk ed p kind some none →
+optional_indexed : (ed : Edition) → (kind : TokenKind) (p : Last) (need : ℕ) (some : Lexeme → Reader) (none : Reader) → OptionalOk ed p kind some none →
     IsIndexed ed (under kind p) none → IsIndexed ed p (optional kind need some none)
 optional_indexed ed kind p need some none ok i = by_test (same kind closing_bracket) refl
   where
@@ -79,7 +79,7 @@ optional_indexed ed kind p need some none ok i = by_test (same kind closing_brac
     by_test true e =
         let here : OptionalKind ed closing_bracket p some none = subst (λ x. OptionalKind ed x p some none) (sym (are_same kind closing_bracket e)) ok.2 in
         let there : Goes ed (period ∷ []) (some t) = starts_goes ed period (some t) refl refl (here.0 t) in
-        inr (inr ([], nowhere, subst (λ c. GoesBy (Goes ed (period ∷ [])) (cond c (Take need (some t)) (step ed none t))) (sym e) there))
+        inr (inr ([], nowhere, subst (λ c. GoesBy (Goes ed (period ∷ [])) (cond c (Take need (some t)) (parser_step ed none t))) (sym e) there))
     by_test false e = elim i [
       | inl b ↦ absurd (under_bracket kind p ok.0 b)
       | inr (inl b) ↦ absurd (under_bounded kind p ok.0 e b)
@@ -95,19 +95,19 @@ picked_operand true y q = absurd (false_true q)
 picked_operand false y q = q
 
 -- the same, from a state that passes a bracket on
-passed_on : (ed : Edition) → (p q : Last) (s r : State) → (q ≡ bracket → ⊥) → (q ≡ bounded → ⊥) → (Goes ed index_end r → Goes ed index_end s) → IsIndexed ed q r →
+passed_on : (ed : Edition) → (p q : Last) (s r : Reader) → (q ≡ bracket → ⊥) → (q ≡ bounded → ⊥) → (Goes ed index_end r → Goes ed index_end s) → IsIndexed ed q r →
     IsIndexed ed p s
 passed_on ed p q s r a b f (inl e) = absurd (a e)
 passed_on ed p q s r a b f (inr (inl e)) = absurd (b e)
 passed_on ed p q s r a b f (inr (inr g)) = inr (inr (f g))
 
-kept_on : (ed : Edition) → (p : Last) (s r : State) → (Goes ed index_end r → Goes ed index_end s) → IsIndexed ed p r → IsIndexed ed p s
+kept_on : (ed : Edition) → (p : Last) (s r : Reader) → (Goes ed index_end r → Goes ed index_end s) → IsIndexed ed p r → IsIndexed ed p s
 kept_on ed p s r f (inl e) = inl e
 kept_on ed p s r f (inr (inl e)) = inr (inl e)
 kept_on ed p s r f (inr (inr g)) = inr (inr (f g))
 
 module _ (ed : Edition) (k : TokenKind) where
-  pub indexed : (s : State) (p : Last) → Right ed s p → is_indexed (label s k) ≡ true → IsIndexed ed p s
+  pub indexed : (s : Reader) (p : Last) → Right ed s p → is_indexed (label s k) ≡ true → IsIndexed ed p s
   indexed (ended f) p r q = absurd (false_true q)
   indexed (token kind need x next) p r q = off x (token_off ed is_indexed refl refl refl refl refl x p kind next r.0) q
   indexed (package_name next) p r q = absurd (false_true q)
@@ -127,7 +127,7 @@ module _ (ed : Edition) (k : TokenKind) where
       (indexed none p r.4 (picked_operand (is_left_out_at an_operand k) (label none k) c))) q
   indexed (suffixes h l e next) p r q =
       let at = λ (text : List ℕ) (place : Place). brace_step h l (λ a. suffixes h l a next) (tok closing_bracket text place)
-      (step ed (next e) (tok closing_bracket text place)) (literal_type e) refl in
+      (parser_step ed (next e) (tok closing_bracket text place)) (literal_type e) refl in
       kept_on ed p (suffixes h l e next) (next e) (λ g. (g.0, g.1, moved (Goes ed (period ∷ [])) _ _ (sym (at g.0 g.1)) g.2)) (indexed (next e) p r.0 q)
   indexed (operators n h l e next) p r q = kept_on ed p (operators n h l e next) (next e) (λ g. g) (indexed (next e) p r.0 q)
   indexed (more_names front next) p r q =
@@ -138,11 +138,11 @@ module _ (ed : Edition) (k : TokenKind) where
   indexed (operands l next) p r q = absurd (false_true q)
   indexed (lefts m h l [] next alone range) p r q = absurd (false_true q)
   indexed (lefts m h l (e ∷ []) next alone range) p r q =
-      let behind : Simple → State = next in
+      let behind : Simple → Reader = next in
       let part = by_call
       (λ c. is_indexed (pick c (label (behind (call_statement e)) k) (behind_left m e)) ≡ true →
       (p ≡ bracket) ⊎ ((p ≡ bounded) ⊎ ((text : List ℕ) × (place : Place)
-      × GoesBy (Goes ed (period ∷ [])) (cond c (step ed (behind (call_statement e)) (tok closing_bracket text place)) (Fail (behind_left m e)))))) (is_call e)
+      × GoesBy (Goes ed (period ∷ [])) (cond c (parser_step ed (behind (call_statement e)) (tok closing_bracket text place)) (Fail (behind_left m e)))))) (is_call e)
       (λ c d. indexed (next (call_statement e)) p (r.1 (call_statement e) p (call_end m e p r.0 c)) d)
       (λ c d. off (behind_left m e) (left_off ed is_indexed refl refl m e) d) q in
       elim part [

@@ -10,9 +10,9 @@ use Rattle.go_scan.specs.declared.keyword.Keyword.TheVariants as keywords
 use Rattle.go_scan.specs.declared.punctuation.Punctuation.TheVariants as marks
 use Rattle.go_ast.specs.Kinds.{same}
 use Rattle.go_ast.specs.Expected.{Expected, an_operand, a_value, a_type, a_declared_type, a_parameter_type, a_length, an_index, a_statement, behind_a_name, behind_a_jump, an_import, an_import_path, another, is_left_out_at, an_index_end}
-use Rattle.go_ast.specs.Trees.{Expr, call_statement, conditional, no_else}
+use Rattle.go_ast.specs.Trees.{Expression, call_statement, conditional, no_else}
 use Rattle.go_ast.specs.Grammar.{Lexeme, name_of, opening_brace, comma, colon, is_call}
-use Rattle.go_ast.specs.Machine.{ListKind, fields, arguments, elements, const_specs, var_specs, type_specs, import_specs, statements, parameters, results, Item, State, ended, token, package_name, import_path, optional, type, optional_type, expr, optional_expr, suffixes, operators, more_names, more_exprs, list_start, list_end, lefts, else_part, clause_start, clause_end, import_end, decl_end, Move, Take, Fail, cond, keyword, literal_type, behind_left, step, newer, operands}
+use Rattle.go_ast.specs.Machine.{ListKind, fields, arguments, elements, const_specs, var_specs, type_specs, import_specs, statements, parameters, results, Item, Reader, ended, token, package_name, import_path, optional, type, optional_type, expr, optional_expr, suffixes, operators, more_names, more_exprs, list_start, list_end, lefts, else_part, clause_start, clause_end, import_end, decl_end, Move, Take, Fail, cond, keyword, literal_type, behind_left, parser_step, newer, operands}
 use Rattle.go_ast.proofs.Same.{are_same}
 use Rattle.go_ast.proofs.Base.{false_true, left_true, right_true}
 use Rattle.go_ast.proofs.LeftOutStates.{Last, other, names, keyed, tok, GoesBy, Goes, starts, start_label, label, pick, TokenOk, EndOk, OptionalOk, OptionalKind, Right, under, NewerOk}
@@ -36,7 +36,7 @@ keyed_under _ p e = inr e
 
 -- a test of labels that holds at the ends of one kind of list alone
 pub record IsTest (ed : Edition) (T : Expected → Bool) (k : TokenKind) : Type 0 where
-  pub token_off : (x : Expected) (p : Last) (kind : TokenKind) (next : Lexeme → State) → TokenOk ed p kind x next → T x ≡ false
+  pub token_off : (x : Expected) (p : Last) (kind : TokenKind) (next : Lexeme → Reader) → TokenOk ed p kind x next → T x ≡ false
   pub other_off : T another ≡ false
   pub operand_off : T an_operand ≡ false
   pub value_off : T a_value ≡ false
@@ -56,12 +56,12 @@ pub record IsTest (ed : Edition) (T : Expected → Bool) (k : TokenKind) : Type 
 
 module _ (ed : Edition) (T : Expected → Bool) (k j : TokenKind) (js : List TokenKind) (b : Bool) (is : IsTest ed T k) where
   -- the list goes on so, and its label tells it, unless a key's colon may come
-  abbrev pub Comma : Last → State → Type 0
+  abbrev pub Comma : Last → Reader → Type 0
   Comma p s =
       (T (label s k) ≡ true → Goes ed (comma ∷ j ∷ js) s)
       × (Goes ed (comma ∷ j ∷ js) s → (T (label s k) ≡ true) ⊎ ((b ≡ true) × ((starts ed s colon ≡ true) ⊎ (is_keyed p ≡ true))))
 
-  no_comma : (p : Last) (s : State) → T (label s k) ≡ false → (Goes ed (comma ∷ j ∷ js) s → ⊥) → Comma p s
+  no_comma : (p : Last) (s : Reader) → T (label s k) ≡ false → (Goes ed (comma ∷ j ∷ js) s → ⊥) → Comma p s
   no_comma p s e f = ((λ q. absurd (false_true (sym e ∙ q))), λ g. absurd (f g))
 
   start_off : (s : ListKind) → T (start_label s) ≡ false
@@ -76,7 +76,7 @@ module _ (ed : Edition) (T : Expected → Bool) (k j : TokenKind) (js : List Tok
   start_off parameters = is.other_off
   start_off results = is.type_is_off
 
-  start_not : (s : ListKind) (front : List (Item s)) (next : List (Item s) → Lexeme → State) → Goes ed (comma ∷ j ∷ js) (list_start s front next) → ⊥
+  start_not : (s : ListKind) (front : List (Item s)) (next : List (Item s) → Lexeme → Reader) → Goes ed (comma ∷ j ∷ js) (list_start s front next) → ⊥
   start_not (fields l) front next g = g.2
   start_not (arguments l) front next g = g.2
   start_not (elements l) front next g = g.2
@@ -88,20 +88,20 @@ module _ (ed : Edition) (T : Expected → Bool) (k j : TokenKind) (js : List Tok
   start_not parameters front next g = g.2
   start_not results front next g = g.2
 
-  token_not : (kind : TokenKind) (need : ℕ) (x : Expected) (next : Lexeme → State) → same kind comma ≡ false → Goes ed (comma ∷ j ∷ js) (token kind need x next) → ⊥
+  token_not : (kind : TokenKind) (need : ℕ) (x : Expected) (next : Lexeme → Reader) → same kind comma ≡ false → Goes ed (comma ∷ j ∷ js) (token kind need x next) → ⊥
   token_not kind need x next e g =
       subst (λ c. GoesBy (Goes ed (j ∷ js)) (cond c (Take need (next (tok comma g.0 g.1))) (Fail x))) e g.2
 
-  module _ (no_expr : (h : Bool) (l : ℕ) (next : Expr → State) → Goes ed (j ∷ js) (expr 5 h l an_operand next) → ⊥)
-      (no_name : (need : ℕ) (next : Lexeme → State) → Goes ed (j ∷ js) (token kinds.Name need another next) → ⊥)
-      (no_some : (s : State) → starts ed s (keyword keywords.Struct) ≡ false → (Goes ed (opening_brace ∷ []) s → ⊥) → Goes ed (j ∷ js) s → ⊥)
-      (list : (s : ListKind) (x : Expected) (p : Last) (front : List (Item s)) (next : List (Item s) → Lexeme → State) → EndOk s x p →
+  module _ (no_expr : (h : Bool) (l : ℕ) (next : Expression → Reader) → Goes ed (j ∷ js) (expr 5 h l an_operand next) → ⊥)
+      (no_name : (need : ℕ) (next : Lexeme → Reader) → Goes ed (j ∷ js) (token kinds.Name need another next) → ⊥)
+      (no_some : (s : Reader) → starts ed s (keyword keywords.Struct) ≡ false → (Goes ed (opening_brace ∷ []) s → ⊥) → Goes ed (j ∷ js) s → ⊥)
+      (list : (s : ListKind) (x : Expected) (p : Last) (front : List (Item s)) (next : List (Item s) → Lexeme → Reader) → EndOk s x p →
       Comma p (list_end s x front next)) where
     -- where a part is passed over in front of which a comma stands, no list ends
-    over : (p : Last) (s : State) → Comma p s → starts ed s comma ≡ false → T (label s k) ≡ true → ⊥
+    over : (p : Last) (s : Reader) → Comma p s → starts ed s comma ≡ false → T (label s k) ≡ true → ⊥
     over p s i quiet q = false_true (sym quiet ∙ goes_starts ed comma (j ∷ js) s refl (i.0 q))
 
-    optional_comma : (kind : TokenKind) (p : Last) (need : ℕ) (some : Lexeme → State) (none : State) → OptionalOk ed p kind some none →
+    optional_comma : (kind : TokenKind) (p : Last) (need : ℕ) (some : Lexeme → Reader) (none : Reader) → OptionalOk ed p kind some none →
         Comma (under kind p) none → Comma p (optional kind need some none)
     optional_comma kind p need some none ok i = by_test (same kind comma) refl
       where
@@ -115,7 +115,7 @@ module _ (ed : Edition) (T : Expected → Bool) (k j : TokenKind) (js : List Tok
         ]
 
         go : Bool → List ℕ → Place → Move
-        go c text place = cond c (Take need (some (tok comma text place))) (step ed none (tok comma text place))
+        go c text place = cond c (Take need (some (tok comma text place))) (parser_step ed none (tok comma text place))
 
         by_test : (c : Bool) → same kind comma ≡ c → Comma p (optional kind need some none)
         by_test false e = (
@@ -129,22 +129,22 @@ module _ (ed : Edition) (T : Expected → Bool) (k j : TokenKind) (js : List Tok
                   absurd (no_some (some t) (here.1 t).0 (here.1 t).1 (subst (λ c. GoesBy (Goes ed (j ∷ js)) (go c g.0 g.1)) e g.2)))),
             )
 
-    newer_comma : (kind : TokenKind) (p : Last) (need : ℕ) (x : Expected) (some : Lexeme → State) (none : State) → NewerOk ed p kind x some →
+    newer_comma : (kind : TokenKind) (p : Last) (need : ℕ) (x : Expected) (some : Lexeme → Reader) (none : Reader) → NewerOk ed p kind x some →
         starts ed none comma ≡ false → Goes ed (comma ∷ j ∷ js) (newer kind need x some none) → ⊥
     newer_comma kind p need x some none h quiet g =
         let t : Lexeme = tok comma g.0 g.1 in
-        let there : GoesBy (Goes ed (j ∷ js)) (step ed none t) =
-        subst (λ c. GoesBy (Goes ed (j ∷ js)) (cond c (cond (has_slices ed) (Take need (some t)) (Fail x)) (step ed none t)))
+        let there : GoesBy (Goes ed (j ∷ js)) (parser_step ed none t) =
+        subst (λ c. GoesBy (Goes ed (j ∷ js)) (cond c (cond (has_slices ed) (Take need (some t)) (Fail x)) (parser_step ed none t)))
         (newer_not ed p kind x some comma h refl) g.2 in
         false_true (sym quiet ∙ goes_starts ed comma (j ∷ js) none refl (g.0, g.1, there))
 
-    picked : (p : Last) (s none : State) (x : Expected) → label s k ≡ label none k →
+    picked : (p : Last) (s none : Reader) (x : Expected) → label s k ≡ label none k →
         ((T (label none k) ≡ true → Goes ed (comma ∷ j ∷ js) s)
         × (Goes ed (comma ∷ j ∷ js) s → (T (label none k) ≡ true) ⊎ ((b ≡ true) × ((starts ed s colon ≡ true) ⊎ (is_keyed p ≡ true))))) → Comma p s
     picked p s none x e i =
         ((λ q. i.0 (sym (ap T e) ∙ q)), λ g. elim (i.1 g) [ inl y ↦ inl (ap T e ∙ y) | inr y ↦ inr y ])
 
-    pub commas : (s : State) (p : Last) → Right ed s p → Comma p s
+    pub commas : (s : Reader) (p : Last) → Right ed s p → Comma p s
     commas (ended f) p r = no_comma p (ended f) is.other_off (λ g. g.2)
     commas (token kind need x next) p r =
         no_comma p (token kind need x next) (is.token_off x p kind next r.0) (token_not kind need x next (mark_not kind comma (token_mark ed x p kind next r.0) refl))
@@ -166,7 +166,7 @@ module _ (ed : Edition) (T : Expected → Bool) (k j : TokenKind) (js : List Tok
         (commas none p r.4))
     commas (suffixes h l e next) p r =
         let i = commas (next e) p r.0 in
-        let at = λ (text : List ℕ) (place : Place). brace_step h l (λ a. suffixes h l a next) (tok comma text place) (step ed (next e) (tok comma text place)) (literal_type e) refl in (
+        let at = λ (text : List ℕ) (place : Place). brace_step h l (λ a. suffixes h l a next) (tok comma text place) (parser_step ed (next e) (tok comma text place)) (literal_type e) refl in (
           (λ q. (let g = i.0 q in (g.0, g.1, moved (Goes ed (j ∷ js)) _ _ (sym (at g.0 g.1)) g.2))),
           (λ g. i.1 (g.0, g.1, moved (Goes ed (j ∷ js)) _ _ (at g.0 g.1) g.2)),
         )

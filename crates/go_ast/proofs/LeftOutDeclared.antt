@@ -6,9 +6,9 @@ use Rattle.go_scan.specs.declared.token.TokenKind.{TokenKind}
 use Rattle.go_scan.specs.declared.keyword.Keyword.TheVariants as keywords
 use Rattle.go_ast.specs.Kinds.{same}
 use Rattle.go_ast.specs.Expected.{Expected, a_type, a_declared_type, a_parameter_type, an_index_end, a_selected_name, a_function_name, a_function_opening, an_element_end, a_field_end, a_result_end, behind_a_jump, another, is_left_out_at}
-use Rattle.go_ast.specs.Trees.{TypeExpr, Expr, name, call_statement, conditional, no_else}
+use Rattle.go_ast.specs.Trees.{TypeExpr, Expression, name, call_statement, conditional, no_else}
 use Rattle.go_ast.specs.Grammar.{Lexeme, is_call, opening}
-use Rattle.go_ast.specs.Machine.{ListKind, fields, arguments, elements, const_specs, var_specs, type_specs, import_specs, statements, parameters, results, separator, closer, Position, in_list, in_header, in_for, behind_turns, State, ended, token, package_name, import_path, optional, type, optional_type, expr, optional_expr, suffixes, operators, more_names, more_exprs, list_start, list_end, lefts, else_part, clause_start, clause_end, import_end, decl_end, keyword, behind_left, newer, operands}
+use Rattle.go_ast.specs.Machine.{ListKind, fields, arguments, elements, const_specs, var_specs, type_specs, import_specs, statements, parameters, results, separator, closer, Position, in_list, in_header, in_for, behind_turns, Reader, ended, token, package_name, import_path, optional, type, optional_type, expr, optional_expr, suffixes, operators, more_names, more_exprs, list_start, list_end, lefts, else_part, clause_start, clause_end, import_end, decl_end, keyword, behind_left, newer, operands}
 use Rattle.go_ast.proofs.Base.{false_true, either_false}
 use Rattle.go_ast.proofs.LeftOutStates.{Last, other, name_last, names, starts, starts_item, veto, pick, start_label, label, TypeOk, TokenOk, EndOk, Right, under}
 use Rattle.go_ast.proofs.LeftOutLed.{optional_not, newer_starts, newer_label}
@@ -56,7 +56,7 @@ list_local import_specs another p h = refl
 list_local parameters another p h = refl
 list_local _ _ p h = absurd h
 
-pub local : (ed : Edition) → (s : State) (p : Last) → Right ed s p → is_left_out_at (label s a_type_word) a_type_word ≡ starts ed s a_return
+pub local : (ed : Edition) → (s : Reader) (p : Last) → Right ed s p → is_left_out_at (label s a_type_word) a_type_word ≡ starts ed s a_return
 local ed (ended f) p r = refl
 local ed (token kind need x next) p r =
     token_silent ed a_type_word x p kind next refl refl refl refl refl r.0 ∙ sym (token_starts ed a_return x p kind next refl r.0)
@@ -103,7 +103,7 @@ is_typed a_declared_type = true
 is_typed a_parameter_type = true
 is_typed _ = false
 
-token_typed : (ed : Edition) → (x : Expected) (p : Last) (kind : TokenKind) (next : Lexeme → State) → TokenOk ed p kind x next → is_typed x ≡ false
+token_typed : (ed : Edition) → (x : Expected) (p : Last) (kind : TokenKind) (next : Lexeme → Reader) → TokenOk ed p kind x next → is_typed x ≡ false
 token_typed ed another p kind next h = refl
 token_typed ed an_index_end p kind next h = refl
 token_typed ed a_selected_name p kind next h = refl
@@ -111,7 +111,7 @@ token_typed ed a_function_name p kind next h = refl
 token_typed ed a_function_opening p kind next h = refl
 token_typed ed _ p kind next h = absurd h
 
-type_typed : (ed : Edition) → (p : Last) (x : Expected) (next : TypeExpr → State) → TypeOk ed p x next → is_typed x ≡ true
+type_typed : (ed : Edition) → (p : Last) (x : Expected) (next : TypeExpr → Reader) → TypeOk ed p x next → is_typed x ≡ true
 type_typed ed other a_type next h = refl
 type_typed ed names a_type next h = refl
 type_typed ed names a_parameter_type next h = refl
@@ -147,14 +147,14 @@ list_typed import_specs another p h = refl
 list_typed parameters another p h = refl
 list_typed _ _ p h = absurd h
 
-left_typed : (m : Position) (e : Expr) → is_typed (behind_left m e) ≡ false
+left_typed : (m : Position) (e : Expression) → is_typed (behind_left m e) ≡ false
 left_typed in_list (name q text) = refl
 left_typed in_list _ = refl
 left_typed in_header e = refl
 left_typed in_for e = refl
 left_typed behind_turns e = refl
 
-pub typed : (ed : Edition) → (s : State) (p : Last) → Right ed s p → starts ed s opening ≡ false → is_typed (label s opening) ≡ starts ed s a_struct
+pub typed : (ed : Edition) → (s : Reader) (p : Last) → Right ed s p → starts ed s opening ≡ false → is_typed (label s opening) ≡ starts ed s a_struct
 typed ed (ended f) p r o = refl
 typed ed (token kind need x next) p r o = token_typed ed x p kind next r.0 ∙ sym (token_starts ed a_struct x p kind next refl r.0)
 typed ed (package_name next) p r o = refl

@@ -6,7 +6,7 @@ use Rattle.go_scan.specs.declared.token.TokenKind.{TokenKind}
 use Rattle.go_scan.specs.declared.keyword.Keyword.TheVariants as keywords
 use Rattle.go_ast.specs.Expected.{Expected, an_operand, a_type, an_index_end, a_selected_name, an_element_end, a_field_end, a_result_end, behind_a_jump, a_function_name, a_function_opening, another, is_left_out_at}
 use Rattle.go_ast.specs.Grammar.{Lexeme, opening_brace, closing_brace, closing, colon}
-use Rattle.go_ast.specs.Machine.{ListKind, fields, arguments, elements, const_specs, var_specs, type_specs, import_specs, statements, parameters, results, Item, State, list_end, keyword}
+use Rattle.go_ast.specs.Machine.{ListKind, fields, arguments, elements, const_specs, var_specs, type_specs, import_specs, statements, parameters, results, Item, Reader, list_end, keyword}
 use Rattle.go_ast.proofs.Base.{false_true}
 use Rattle.go_ast.proofs.LeftOutStates.{Last, TokenOk, EndOk, Right}
 use Rattle.go_ast.proofs.LeftOutMay.{goes_starts}
@@ -16,7 +16,7 @@ pub nowhere : Place
 nowhere = record { line = 0; column = 0 }
 
 pub token_off : (ed : Edition) → (T : Expected → Bool) → T another ≡ false → T an_index_end ≡ false → T a_selected_name ≡ false → T a_function_name ≡ false →
-    T a_function_opening ≡ false → (x : Expected) (p : Last) (kind : TokenKind) (next : Lexeme → State) → TokenOk ed p kind x next → T x ≡ false
+    T a_function_opening ≡ false → (x : Expected) (p : Last) (kind : TokenKind) (next : Lexeme → Reader) → TokenOk ed p kind x next → T x ≡ false
 token_off ed T a b c d e another p kind next h = a
 token_off ed T a b c d e an_index_end p kind next h = b
 token_off ed T a b c d e a_selected_name p kind next h = c
@@ -50,10 +50,10 @@ element_test ed =
       no_operand = refl;
     }
 
-abbrev pub ElementComma : (ed : Edition) → Last → State → Type 0
+abbrev pub ElementComma : (ed : Edition) → Last → Reader → Type 0
 ElementComma ed p s = Comma ed is_element_end colon opening_brace [] true (element_test ed) p s
 
-element_list : (ed : Edition) → (s : ListKind) (x : Expected) (p : Last) (front : List (Item s)) (next : List (Item s) → Lexeme → State) → EndOk s x p →
+element_list : (ed : Edition) → (s : ListKind) (x : Expected) (p : Last) (front : List (Item s)) (next : List (Item s) → Lexeme → Reader) → EndOk s x p →
     ElementComma ed p (list_end s x front next)
 element_list ed (fields l) a_field_end p front next h = ((λ q. absurd (false_true q)), λ g. absurd g.2)
 element_list ed (elements l) an_element_end p front next h = ((λ q. ([], nowhere, ([], nowhere, tt))), λ g. inl refl)
@@ -70,7 +70,7 @@ element_list ed parameters another p front next h = ((λ q. absurd (false_true q
 element_list ed _ _ p front next h = absurd h
 
 -- behind an element, and only there, a comma and a brace may come
-pub element : (ed : Edition) → (s : State) (p : Last) → Right ed s p → ElementComma ed p s
+pub element : (ed : Edition) → (s : Reader) (p : Last) → Right ed s p → ElementComma ed p s
 element ed s p r =
     commas ed is_element_end colon opening_brace [] true (element_test ed) (λ h l next g. g.2) (λ need next g. g.2) (λ s q f g. f g) (element_list ed) s p r
 
@@ -104,10 +104,10 @@ module _ (ed : Edition) (k : TokenKind) (type_off : is_left_out_at a_type k ≡ 
         no_operand = operand_off;
       }
 
-  abbrev pub ResultComma : Last → State → Type 0
+  abbrev pub ResultComma : Last → Reader → Type 0
   ResultComma p s = Comma ed is_result k (keyword keywords.Struct) behind_result false result_test p s
 
-  result_list : (s : ListKind) (x : Expected) (p : Last) (front : List (Item s)) (next : List (Item s) → Lexeme → State) → EndOk s x p →
+  result_list : (s : ListKind) (x : Expected) (p : Last) (front : List (Item s)) (next : List (Item s) → Lexeme → Reader) → EndOk s x p →
       ResultComma p (list_end s x front next)
   result_list (fields l) a_field_end p front next h = ((λ q. absurd (false_true q)), λ g. absurd g.2)
   result_list (elements l) an_element_end p front next h = ((λ q. absurd (false_true q)), λ g. absurd g.2.2.2.2.2)
@@ -125,7 +125,7 @@ module _ (ed : Edition) (k : TokenKind) (type_off : is_left_out_at a_type k ≡ 
   result_list _ _ p front next h = absurd h
 
   -- behind a result in parentheses, and only there, a comma, an empty struct and the parenthesis may come
-  pub result : (s : State) (p : Last) → Right ed s p → ResultComma p s
+  pub result : (s : Reader) (p : Last) → Right ed s p → ResultComma p s
   result s p r =
       commas ed is_result k (keyword keywords.Struct) behind_result false result_test (λ h l next g. g.2.2.2.2) (λ need next g. g.2)
       (λ s q f g. false_true (sym q ∙ goes_starts ed (keyword keywords.Struct) behind_result s refl g)) result_list s p r

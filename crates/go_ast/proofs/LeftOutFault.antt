@@ -11,7 +11,7 @@ use Rattle.go_ast.specs.Expected.{Expected, an_operand, a_value, a_type, a_decla
 use Rattle.go_ast.specs.Grammar.{Lexeme, assign, opening, closing, opening_bracket, closing_bracket, opening_brace, closing_brace, comma, period, semicolon, colon}
 use Rattle.go_ast.specs.LeftOut.{is_never_read, begins_left_out, EndsIn, May, word, LeftOut, anywhere, pointer, parenthesized_type, method, generic, generic_function, slice, slice_end, slice_start, jump_label, key, assertion, alias, local_type, dot_import, cgo, range, unnamed, tag, named_result}
 use Rattle.go_ast.specs.LeftOut as out
-use Rattle.go_ast.specs.Machine.{State, Take, Fail, start, step}
+use Rattle.go_ast.specs.Machine.{Reader, Take, Fail, start, parser_step}
 use Rattle.go_ast.proofs.Same.{are_same}
 use Rattle.go_ast.proofs.Base.{false_true, left_true, right_true, either_true}
 use Rattle.go_ast.proofs.Final.{Theory, Leads, Told}
@@ -182,7 +182,7 @@ is_keyed_last keyed e = refl
 is_keyed_last _ e = absurd (false_true e)
 
 -- behind `func` no `return` may stand
-func_return : (ed : Edition) → (s : State) (p : Last) → Right ed s p → is_func p ≡ true → starts ed s (word keywords.Return) ≡ false
+func_return : (ed : Edition) → (s : Reader) (p : Last) → Right ed s p → is_func p ≡ true → starts ed s (word keywords.Return) ≡ false
 func_return ed s p right f =
     let here : label s (word keywords.Type) ≡ a_function_name =
     subst (λ z. LabelAt z (label s (word keywords.Type))) (is_func_last p f) (labelled ed s p (word keywords.Type) right) in
@@ -215,8 +215,8 @@ brace_out ed good k b (named_result (inr (inl e)) m) = absurd (let c : opening_b
 brace_out ed good k b (named_result (inr (inr e)) m) = absurd (let c : opening_brace ≡ word keywords.Struct = sym b ∙ e in cc (c))
 
 module _ (ed : Edition) (theory : (B : ℕ) → Theory ed B) where
-  known_step : (B : ℕ) (before : List Lexeme) (s q : State) (p : Last) (t : Lexeme) (need : ℕ) → 1 ≤ B → Leads ed B start before s → Known ed before p → Right ed s p →
-      step ed s t ≡ Take need q → (r : Last) × Known ed (before ++ t ∷ []) r × Right ed q r
+  known_step : (B : ℕ) (before : List Lexeme) (s q : Reader) (p : Last) (t : Lexeme) (need : ℕ) → 1 ≤ B → Leads ed B start before s → Known ed before p → Right ed s p →
+      parser_step ed s t ≡ Take need q → (r : Last) × Known ed (before ++ t ∷ []) r × Right ed q r
   known_step B before s q p t need one h known right e =
       let l : Led ed p (starts ed s (word keywords.Return)) t.kind (Take need q) = subst (Led ed p (starts ed s (word keywords.Return)) t.kind) e (led ed s p t right) in (
         l.0,
@@ -236,7 +236,7 @@ module _ (ed : Edition) (theory : (B : ℕ) → Theory ed B) where
         l.2,
       )
 
-  runs : (B : ℕ) (ts before : List Lexeme) (s r : State) (p : Last) → 1 ≤ B → Leads ed B start before s → Known ed before p → Right ed s p → Leads ed B s ts r →
+  runs : (B : ℕ) (ts before : List Lexeme) (s r : Reader) (p : Last) → 1 ≤ B → Leads ed B start before s → Known ed before p → Right ed s p → Leads ed B s ts r →
       (q : Last) × Known ed (before ++ ts) q × Right ed r q
   runs B [] before s r p one h known right lead =
       (p, subst (λ x. Known ed x p) (sym (append-nil before)) known, subst (λ x. Right ed x p) lead right)
@@ -247,7 +247,7 @@ module _ (ed : Edition) (theory : (B : ℕ) → Theory ed B) where
       let rest = runs B ts (before ++ t ∷ []) lead.1 r k.0 one there k.1 k.2 lead.4 in
       (rest.0, subst (λ x. Known ed x rest.0) (append_assoc before (t ∷ []) ts) rest.1, rest.2)
 
-  module _ (B : ℕ) (good : List Lexeme) (r : State) (p : Last) (one : 1 ≤ B) (h : Leads ed B start good r) (known : Known ed good p) (right : Right ed r p) where
+  module _ (B : ℕ) (good : List Lexeme) (r : Reader) (p : Last) (one : 1 ≤ B) (h : Leads ed B start good r) (known : Known ed good p) (right : Right ed r p) where
     may : (ks : List TokenKind) → Goes ed ks r → May ed good ks
     may ks g = goes_may ed theory B good r ks one h g
 
@@ -510,12 +510,12 @@ module _ (ed : Edition) (theory : (B : ℕ) → Theory ed B) where
           (result_from (word keywords.Struct) refl refl refl (goes (comma ∷ word keywords.Struct ∷ opening_brace ∷ closing_brace ∷ closing ∷ []) m))
 
   -- both ways
-  says_fail : (r : State) (t : Lexeme) (x : Expected) → same opening_brace t.kind ≡ false → step ed r t ≡ Fail x →
+  says_fail : (r : Reader) (t : Lexeme) (x : Expected) → same opening_brace t.kind ≡ false → parser_step ed r t ≡ Fail x →
       (x ≡ label r t.kind) × (is_sure t.kind ≡ true → starts ed r t.kind ≡ false)
   says_fail r t x ne e = subst (Says t.kind (starts ed r t.kind) (label r t.kind)) e (said ed r t ne)
 
-  left_out_to : (B : ℕ) (good : List Lexeme) (r : State) (p : Last) (t : Lexeme) (x : Expected) → 1 ≤ B → Leads ed B start good r → Known ed good p → Right ed r p →
-      step ed r t ≡ Fail x → is_left_out x t.kind ≡ true → LeftOut ed good t.kind
+  left_out_to : (B : ℕ) (good : List Lexeme) (r : Reader) (p : Last) (t : Lexeme) (x : Expected) → 1 ≤ B → Leads ed B start good r → Known ed good p → Right ed r p →
+      parser_step ed r t ≡ Fail x → is_left_out x t.kind ≡ true → LeftOut ed good t.kind
   left_out_to B good r p t x one h known right e out = by_test (same opening_brace t.kind) refl
     where
       by_test : (c : Bool) → same opening_brace t.kind ≡ c → LeftOut ed good t.kind
@@ -528,15 +528,15 @@ module _ (ed : Edition) (theory : (B : ℕ) → Theory ed B) where
                 out_to B good r p one h known right t.kind f.1 (out_kind x t.kind q) (subst (λ y. is_left_out_at y t.kind ≡ true) f.0 q)
           ]
 
-  left_out_from : (B : ℕ) (good : List Lexeme) (r : State) (p : Last) (t : Lexeme) (x : Expected) → 1 ≤ B → Leads ed B start good r → Known ed good p → Right ed r p →
-      step ed r t ≡ Fail x → LeftOut ed good t.kind → is_left_out x t.kind ≡ true
+  left_out_from : (B : ℕ) (good : List Lexeme) (r : Reader) (p : Last) (t : Lexeme) (x : Expected) → 1 ≤ B → Leads ed B start good r → Known ed good p → Right ed r p →
+      parser_step ed r t ≡ Fail x → LeftOut ed good t.kind → is_left_out x t.kind ≡ true
   left_out_from B good r p t x one h known right e out = by_test (same opening_brace t.kind) refl
     where
       integer : (c : Bool) → starts ed r kinds.Integer ≡ c → t.kind ≡ kinds.String → c ≡ false
       integer false i is = refl
       integer true i is =
-          let taken : GoesBy (Goes ed []) (step ed r t) =
-          subst (λ j. GoesBy (Goes ed []) (step ed r (tok j t.text t.place))) (sym is) (string_taken ed r p right i t.text t.place) in
+          let taken : GoesBy (Goes ed []) (parser_step ed r t) =
+          subst (λ j. GoesBy (Goes ed []) (parser_step ed r (tok j t.text t.place))) (sym is) (string_taken ed r p right i t.text t.place) in
           absurd (subst (GoesBy (Goes ed [])) e taken)
 
       by_test : (c : Bool) → same opening_brace t.kind ≡ c → is_left_out x t.kind ≡ true

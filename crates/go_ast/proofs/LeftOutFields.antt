@@ -9,7 +9,7 @@ use Rattle.go_ast.specs.Kinds.{same}
 use Rattle.go_ast.specs.Expected.{Expected, an_element_end, a_field_end, a_result_end, behind_a_jump, another}
 use Rattle.go_ast.specs.Trees.{Simple, call_statement, conditional, no_else}
 use Rattle.go_ast.specs.Grammar.{Lexeme, closing_brace, semicolon, is_call}
-use Rattle.go_ast.specs.Machine.{ListKind, fields, arguments, elements, const_specs, var_specs, type_specs, import_specs, statements, parameters, results, State, ended, token, package_name, import_path, optional, type, optional_type, expr, optional_expr, suffixes, operators, more_names, more_exprs, list_start, list_end, lefts, else_part, clause_start, clause_end, import_end, decl_end, Fail, cond, keyword, literal_type, behind_left, step, newer, operands}
+use Rattle.go_ast.specs.Machine.{ListKind, fields, arguments, elements, const_specs, var_specs, type_specs, import_specs, statements, parameters, results, Reader, ended, token, package_name, import_path, optional, type, optional_type, expr, optional_expr, suffixes, operators, more_names, more_exprs, list_start, list_end, lefts, else_part, clause_start, clause_end, import_end, decl_end, Fail, cond, keyword, literal_type, behind_left, parser_step, newer, operands}
 use Rattle.go_ast.proofs.Same.{are_same}
 use Rattle.go_ast.proofs.Base.{false_true, right_true}
 use Rattle.go_ast.proofs.LeftOutStates.{Last, other, names, tok, GoesBy, Goes, starts, start_label, label, pick, OptionalOk, OptionalKind, EndOk, Right, under}
@@ -28,7 +28,7 @@ is_field_end _ = false
 abbrev pub behind_field : List TokenKind
 behind_field = kinds.Name ∷ keyword keywords.Struct ∷ []
 
-abbrev pub Field : (ed : Edition) → State → Type 0
+abbrev pub Field : (ed : Edition) → Reader → Type 0
 Field ed s = (starts ed s closing_brace ≡ true) × Goes ed (semicolon ∷ behind_field) s
 
 off : {A : Type 0} (x : Expected) → is_field_end x ≡ false → is_field_end x ≡ true → A
@@ -46,7 +46,7 @@ start_field (statements l) = refl
 start_field parameters = refl
 start_field results = refl
 
-optional_field : (ed : Edition) → (kind : TokenKind) (p : Last) (need : ℕ) (some : Lexeme → State) (none : State) → OptionalOk ed p kind some none → Field ed none →
+optional_field : (ed : Edition) → (kind : TokenKind) (p : Last) (need : ℕ) (some : Lexeme → Reader) (none : Reader) → OptionalOk ed p kind some none → Field ed none →
     Field ed (optional kind need some none)
 optional_field ed kind p need some none ok i = by_test (same kind semicolon) refl
   where
@@ -72,7 +72,7 @@ list_to ed import_specs another p front next h q = absurd (false_true q)
 list_to ed parameters another p front next h q = absurd (false_true q)
 list_to ed _ _ p front next h q = absurd h
 
-pub field_to : (ed : Edition) → (s : State) (p : Last) → Right ed s p → is_field_end (label s kinds.String) ≡ true → Field ed s
+pub field_to : (ed : Edition) → (s : Reader) (p : Last) → Right ed s p → is_field_end (label s kinds.String) ≡ true → Field ed s
 field_to ed (ended f) p r q = absurd (false_true q)
 field_to ed (token kind need x next) p r q = off x (token_off ed is_field_end refl refl refl refl refl x p kind next r.0) q
 field_to ed (package_name next) p r q = absurd (false_true q)
@@ -91,7 +91,7 @@ field_to ed (optional_expr h l x some none) p r q =
 field_to ed (suffixes h l e next) p r q =
     let i = field_to ed (next e) p r.0 q in
     let t : Lexeme = tok semicolon i.1.0 i.1.1 in
-    (i.0, (i.1.0, i.1.1, moved (Goes ed behind_field) _ _ (sym (brace_step h l (λ a. suffixes h l a next) t (step ed (next e) t) (literal_type e) refl)) i.1.2))
+    (i.0, (i.1.0, i.1.1, moved (Goes ed behind_field) _ _ (sym (brace_step h l (λ a. suffixes h l a next) t (parser_step ed (next e) t) (literal_type e) refl)) i.1.2))
 field_to ed (operators n h l e next) p r q = field_to ed (next e) p r.0 q
 field_to ed (more_names front next) p r q = field_to ed (next front) names (r.1 front) q
 field_to ed (more_exprs h l front next) p r q = field_to ed (next front) p (r.1 front p r.0) q
@@ -100,11 +100,11 @@ field_to ed (list_end s x front next) p r q = list_to ed s x p front next r.0 q
 field_to ed (operands l next) p r q = absurd (false_true q)
 field_to ed (lefts m h l [] next alone range) p r q = absurd (false_true q)
 field_to ed (lefts m h l (e ∷ []) next alone range) p r q =
-    let behind : Simple → State = next in
+    let behind : Simple → Reader = next in
     let part = by_call
     (λ c. is_field_end (pick c (label (behind (call_statement e)) kinds.String) (behind_left m e)) ≡ true →
     ((c && starts ed (behind (call_statement e)) closing_brace) ≡ true) × ((text : List ℕ) × (place : Place)
-    × GoesBy (Goes ed behind_field) (cond c (step ed (behind (call_statement e)) (tok semicolon text place)) (Fail (behind_left m e))))) (is_call e)
+    × GoesBy (Goes ed behind_field) (cond c (parser_step ed (behind (call_statement e)) (tok semicolon text place)) (Fail (behind_left m e))))) (is_call e)
     (λ c d. field_to ed (next (call_statement e)) p (r.1 (call_statement e) p (call_end m e p r.0 c)) d)
     (λ c d. off (behind_left m e) (left_off ed is_field_end refl refl m e) d) q in
     let t : Lexeme = tok semicolon part.1.0 part.1.1 in
@@ -118,7 +118,7 @@ field_to ed (decl_end a is ds) p r q = absurd (false_true q)
 
 -- the other way round
 
-token_not : (ed : Edition) → (kind : TokenKind) (need : ℕ) (x : Expected) (next : Lexeme → State) → (same kind closing_brace || false) ≡ true →
+token_not : (ed : Edition) → (kind : TokenKind) (need : ℕ) (x : Expected) (next : Lexeme → Reader) → (same kind closing_brace || false) ≡ true →
     Goes ed (semicolon ∷ behind_field) (token kind need x next) → ⊥
 token_not ed kind need x next st g = by_test (same kind closing_brace) refl st
   where
@@ -126,7 +126,7 @@ token_not ed kind need x next st g = by_test (same kind closing_brace) refl st
     by_test false e q = false_true q
     by_test true e q = (subst (λ j. Goes ed (semicolon ∷ behind_field) (token j need x next)) (sym (are_same kind closing_brace e)) g).2
 
-optional_other : (ed : Edition) → (kind : TokenKind) (p : Last) (need : ℕ) (some : Lexeme → State) (none : State) → OptionalOk ed p kind some none →
+optional_other : (ed : Edition) → (kind : TokenKind) (p : Last) (need : ℕ) (some : Lexeme → Reader) (none : Reader) → OptionalOk ed p kind some none →
     Field ed (optional kind need some none) → Field ed none
 optional_other ed kind p need some none ok i = by_test (same kind semicolon) refl
   where
@@ -167,7 +167,7 @@ list_from ed import_specs another p front next h i = absurd (false_true i.0)
 list_from ed parameters another p front next h i = absurd (false_true i.0)
 list_from ed _ _ p front next h i = absurd h
 
-pub field_from : (ed : Edition) → (s : State) (p : Last) → Right ed s p → Field ed s → is_field_end (label s kinds.String) ≡ true
+pub field_from : (ed : Edition) → (s : Reader) (p : Last) → Right ed s p → Field ed s → is_field_end (label s kinds.String) ≡ true
 field_from ed (ended f) p r i = absurd (false_true i.0)
 field_from ed (token kind need x next) p r i = absurd (token_not ed kind need x next i.0 i.1)
 field_from ed (package_name next) p r i = absurd (false_true i.0)
@@ -190,7 +190,7 @@ field_from ed (optional_expr h l x some none) p r i =
 field_from ed (suffixes h l e next) p r i =
     let t : Lexeme = tok semicolon i.1.0 i.1.1 in
     field_from ed (next e) p r.0
-    (i.0, (i.1.0, i.1.1, moved (Goes ed behind_field) _ _ (brace_step h l (λ a. suffixes h l a next) t (step ed (next e) t) (literal_type e) refl) i.1.2))
+    (i.0, (i.1.0, i.1.1, moved (Goes ed behind_field) _ _ (brace_step h l (λ a. suffixes h l a next) t (parser_step ed (next e) t) (literal_type e) refl) i.1.2))
 field_from ed (operators n h l e next) p r i = field_from ed (next e) p r.0 i
 field_from ed (more_names front next) p r i = field_from ed (next front) names (r.1 front) i
 field_from ed (more_exprs h l front next) p r i = field_from ed (next front) p (r.1 front p r.0) i
@@ -199,11 +199,11 @@ field_from ed (list_end s x front next) p r i = list_from ed s x p front next r.
 field_from ed (operands l next) p r i = absurd (false_true i.0)
 field_from ed (lefts m h l [] next alone range) p r i = absurd (false_true i.0)
 field_from ed (lefts m h l (e ∷ []) next alone range) p r i =
-    let behind : Simple → State = next in
+    let behind : Simple → Reader = next in
     let t : Lexeme = tok semicolon i.1.0 i.1.1 in
     by_call
     (λ c. (c && starts ed (behind (call_statement e)) closing_brace) ≡ true →
-    GoesBy (Goes ed behind_field) (cond c (step ed (behind (call_statement e)) t) (Fail (behind_left m e))) →
+    GoesBy (Goes ed behind_field) (cond c (parser_step ed (behind (call_statement e)) t) (Fail (behind_left m e))) →
     is_field_end (pick c (label (behind (call_statement e)) kinds.String) (behind_left m e)) ≡ true) (is_call e)
     (λ c d g. field_from ed (next (call_statement e)) p (r.1 (call_statement e) p (call_end m e p r.0 c)) (d, (i.1.0, i.1.1, g)))
     (λ c d g. absurd g) i.0 (moved (Goes ed behind_field) _ _ (left_step ed m h l e next alone range t refl) i.1.2)

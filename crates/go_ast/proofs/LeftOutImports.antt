@@ -11,7 +11,7 @@ use Rattle.go_ast.specs.Kinds.{same}
 use Rattle.go_ast.specs.Expected.{Expected, an_operand, a_type, an_import, an_import_path, another, is_left_out_at}
 use Rattle.go_ast.specs.Trees.{Simple, call_statement, conditional, no_else}
 use Rattle.go_ast.specs.Grammar.{Lexeme, period, is_call}
-use Rattle.go_ast.specs.Machine.{ListKind, fields, arguments, elements, const_specs, var_specs, type_specs, import_specs, statements, parameters, results, separator, closer, State, ended, token, package_name, import_path, optional, type, optional_type, expr, optional_expr, suffixes, operators, more_names, more_exprs, list_start, list_end, lefts, else_part, clause_start, clause_end, import_end, decl_end, Move, Take, Fail, cond, literal_type, is_string, behind_left, step, newer, operands}
+use Rattle.go_ast.specs.Machine.{ListKind, fields, arguments, elements, const_specs, var_specs, type_specs, import_specs, statements, parameters, results, separator, closer, Reader, ended, token, package_name, import_path, optional, type, optional_type, expr, optional_expr, suffixes, operators, more_names, more_exprs, list_start, list_end, lefts, else_part, clause_start, clause_end, import_end, decl_end, Move, Take, Fail, cond, literal_type, is_string_token, behind_left, parser_step, newer, operands}
 use Rattle.go_ast.proofs.Base.{false_true, either_false, neither}
 use Rattle.go_ast.proofs.LeftOutStates.{Last, other, name_last, names, keyed, nameable, is_end, tok, GoesBy, Goes, starts, start_label, label, pick, ImportOk, Right, under, bounded}
 use Rattle.go_ast.proofs.LeftOutLed.{optional_not, newer_not, newer_starts, newer_label}
@@ -60,7 +60,7 @@ list_string results = refl
 
 -- where a number may come, each string may
 start_taken : (ed : Edition) → (k : ListKind) (front : _) (next : _) (text : List ℕ) (place : Place) → starts ed (list_start k front next) kinds.Integer ≡ true →
-    GoesBy (Goes ed []) (step ed (list_start k front next) (tok kinds.String text place))
+    GoesBy (Goes ed []) (parser_step ed (list_start k front next) (tok kinds.String text place))
 start_taken ed (fields l) front next text place q = absurd (false_true q)
 start_taken ed (arguments l) front next text place q = tt
 start_taken ed (elements l) front next text place q = tt
@@ -72,8 +72,8 @@ start_taken ed (statements l) front next text place q = tt
 start_taken ed parameters front next text place q = absurd (false_true q)
 start_taken ed results front next text place q = absurd (false_true q)
 
-pub string_taken : (ed : Edition) → (s : State) (p : Last) → Right ed s p → starts ed s kinds.Integer ≡ true → (text : List ℕ) (place : Place) →
-    GoesBy (Goes ed []) (step ed s (tok kinds.String text place))
+pub string_taken : (ed : Edition) → (s : Reader) (p : Last) → Right ed s p → starts ed s kinds.Integer ≡ true → (text : List ℕ) (place : Place) →
+    GoesBy (Goes ed []) (parser_step ed s (tok kinds.String text place))
 string_taken ed (ended f) p r q text place = absurd (false_true q)
 string_taken ed (token kind need x next) p r q text place = absurd (false_true (sym (token_starts ed kinds.Integer x p kind next refl r.0) ∙ q))
 string_taken ed (package_name next) p r q text place = absurd (false_true q)
@@ -82,21 +82,21 @@ string_taken ed (optional kind need some none) p r q text place =
     let t : Lexeme = tok kinds.String text place in
     let i = string_taken ed none (under kind p) r.2
     (or_right (same kind kinds.Integer) (starts ed none kinds.Integer) (starts ed none kinds.Integer) (optional_not kind kinds.Integer r.0.1 refl) refl ∙ q) text place in
-    subst (λ c. GoesBy (Goes ed []) (cond c (Take need (some t)) (step ed none t))) (sym (optional_not kind kinds.String r.0.1 refl)) i
+    subst (λ c. GoesBy (Goes ed []) (cond c (Take need (some t)) (parser_step ed none t))) (sym (optional_not kind kinds.String r.0.1 refl)) i
 string_taken ed (newer kind need x some none) p r q text place =
     let t : Lexeme = tok kinds.String text place in
     let i = string_taken ed none p r.2 (sym (newer_starts ed p kind need x some none kinds.Integer r.0 refl) ∙ q) text place in
-    subst (λ c. GoesBy (Goes ed []) (cond c (cond (has_slices ed) (Take need (some t)) (Fail x)) (step ed none t)))
+    subst (λ c. GoesBy (Goes ed []) (cond c (cond (has_slices ed) (Take need (some t)) (Fail x)) (parser_step ed none t)))
     (sym (newer_not ed p kind x some kinds.String r.0 refl)) i
 string_taken ed (type l x next) p r q text place = absurd (false_true q)
 string_taken ed (optional_type l x some none) p r q text place =
-    subst (λ y. starts ed (optional_type l y some none) kinds.Integer ≡ true → GoesBy (Goes ed []) (step ed (optional_type l y some none) (tok kinds.String text place)))
+    subst (λ y. starts ed (optional_type l y some none) kinds.Integer ≡ true → GoesBy (Goes ed []) (parser_step ed (optional_type l y some none) (tok kinds.String text place)))
     (sym (optional_type_is ed p x some none r.0)) (λ c. string_taken ed none p r.2 c text place) q
 string_taken ed (expr n h l x next) p r q text place = tt
 string_taken ed (optional_expr h l x some none) p r q text place = tt
 string_taken ed (suffixes h l e next) p r q text place =
     let t : Lexeme = tok kinds.String text place in
-    moved (Goes ed []) _ _ (sym (brace_step h l (λ a. suffixes h l a next) t (step ed (next e) t) (literal_type e) refl)) (string_taken ed (next e) p r.0 q text place)
+    moved (Goes ed []) _ _ (sym (brace_step h l (λ a. suffixes h l a next) t (parser_step ed (next e) t) (literal_type e) refl)) (string_taken ed (next e) p r.0 q text place)
 string_taken ed (operators n h l e next) p r q text place = string_taken ed (next e) p r.0 q text place
 string_taken ed (more_names front next) p r q text place = string_taken ed (next front) names (r.1 front) q text place
 string_taken ed (more_exprs h l front next) p r q text place = string_taken ed (next front) p (r.1 front p r.0) q text place
@@ -107,10 +107,10 @@ string_taken ed (operands l next) p r q text place =
     (sym (operand_step (has_slices ed) l (λ e. list_end (arguments l) another (e ∷ []) next) (tok kinds.String text place) refl refl)) tt
 string_taken ed (lefts m h l [] next alone range) p r q text place = absurd (false_true q)
 string_taken ed (lefts m h l (e ∷ []) next alone range) p r q text place =
-    let behind : Simple → State = next in
+    let behind : Simple → Reader = next in
     let t : Lexeme = tok kinds.String text place in
     let part = by_call
-    (λ c. (c && starts ed (behind (call_statement e)) kinds.Integer) ≡ true → GoesBy (Goes ed []) (cond c (step ed (behind (call_statement e)) t) (Fail (behind_left m e))))
+    (λ c. (c && starts ed (behind (call_statement e)) kinds.Integer) ≡ true → GoesBy (Goes ed []) (cond c (parser_step ed (behind (call_statement e)) t) (Fail (behind_left m e))))
     (is_call e)
     (λ c d. string_taken ed (next (call_statement e)) p (r.1 (call_statement e) p (call_end m e p r.0 c)) d text place) (λ c d. absurd (false_true d)) q in
     moved (Goes ed []) _ _ (sym (left_step ed m h l e next alone range t refl)) part
@@ -122,14 +122,14 @@ string_taken ed (clause_end l x done a values front next) p r q text place = abs
 string_taken ed (import_end a iss) p r q text place = absurd (false_true q)
 string_taken ed (decl_end a is ds) p r q text place = absurd (false_true q)
 
-path_here : is_string (codes "C") (tok kinds.String a_path.text nowhere) ≡ true
+path_here : is_string_token (codes "C") (tok kinds.String a_path.text nowhere) ≡ true
 path_here = is_a_string (tok kinds.String a_path.text nowhere) refl path_allowed
 
-path_goes : (ed : Edition) → (need : ℕ) (s : State) (m : Move) → GoesBy (Goes ed []) (cond (is_string (codes "C") (tok kinds.String a_path.text nowhere)) (Take need s) m)
+path_goes : (ed : Edition) → (need : ℕ) (s : Reader) (m : Move) → GoesBy (Goes ed []) (cond (is_string_token (codes "C") (tok kinds.String a_path.text nowhere)) (Take need s) m)
 path_goes ed need s m = subst (λ c. GoesBy (Goes ed []) (cond c (Take need s) m)) (sym path_here) tt
 
 module _ (ed : Edition) (k : TokenKind) (no_type : is_left_out_at a_type k ≡ false) (no_operand : is_left_out_at an_operand k ≡ false) where
-  abbrev pub Path : State → Type 0
+  abbrev pub Path : Reader → Type 0
   Path s = Goes ed (kinds.String ∷ []) s × (starts ed s kinds.Integer ≡ false)
 
   off : {A : Type 0} (x : Expected) → is_path x ≡ false → is_path x ≡ true → A
@@ -147,7 +147,7 @@ module _ (ed : Edition) (k : TokenKind) (no_type : is_left_out_at a_type k ≡ f
   start_to parameters front next q = absurd (false_true q)
   start_to results front next q = absurd (false_true q)
 
-  pub path_to : (s : State) (p : Last) → Right ed s p → is_path (label s k) ≡ true → Path s
+  pub path_to : (s : Reader) (p : Last) → Right ed s p → is_path (label s k) ≡ true → Path s
   path_to (ended f) p r q = absurd (false_true q)
   path_to (token kind need x next) p r q = off x (token_off ed is_path refl refl refl refl refl x p kind next r.0) q
   path_to (package_name next) p r q = absurd (false_true q)
@@ -172,7 +172,7 @@ module _ (ed : Edition) (k : TokenKind) (no_type : is_left_out_at a_type k ≡ f
   path_to (suffixes h l e next) p r q =
       let i = path_to (next e) p r.0 q in
       let t : Lexeme = tok kinds.String i.0.0 i.0.1 in
-      ((i.0.0, i.0.1, moved (Goes ed []) _ _ (sym (brace_step h l (λ a. suffixes h l a next) t (step ed (next e) t) (literal_type e) refl)) i.0.2), i.1)
+      ((i.0.0, i.0.1, moved (Goes ed []) _ _ (sym (brace_step h l (λ a. suffixes h l a next) t (parser_step ed (next e) t) (literal_type e) refl)) i.0.2), i.1)
   path_to (operators n h l e next) p r q = path_to (next e) p r.0 q
   path_to (more_names front next) p r q = path_to (next front) names (r.1 front) q
   path_to (more_exprs h l front next) p r q = path_to (next front) p (r.1 front p r.0) q
@@ -181,11 +181,11 @@ module _ (ed : Edition) (k : TokenKind) (no_type : is_left_out_at a_type k ≡ f
   path_to (operands l next) p r q = absurd (false_true q)
   path_to (lefts m h l [] next alone range) p r q = absurd (false_true q)
   path_to (lefts m h l (e ∷ []) next alone range) p r q =
-      let behind : Simple → State = next in
+      let behind : Simple → Reader = next in
       let part = by_call
       (λ c. is_path (pick c (label (behind (call_statement e)) k) (behind_left m e)) ≡ true →
       ((text : List ℕ) × (place : Place)
-      × GoesBy (Goes ed []) (cond c (step ed (behind (call_statement e)) (tok kinds.String text place)) (Fail (behind_left m e))))
+      × GoesBy (Goes ed []) (cond c (parser_step ed (behind (call_statement e)) (tok kinds.String text place)) (Fail (behind_left m e))))
       × ((c && starts ed (behind (call_statement e)) kinds.Integer) ≡ false)) (is_call e)
       (λ c d. path_to (next (call_statement e)) p (r.1 (call_statement e) p (call_end m e p r.0 c)) d)
       (λ c d. off (behind_left m e) (left_off ed is_path refl refl m e) d) q in
@@ -200,7 +200,7 @@ module _ (ed : Edition) (k : TokenKind) (no_type : is_left_out_at a_type k ≡ f
 
   -- the other way round, for tests of labels that hold at an import
   module _ (T : Expected → Bool) (here : T an_import ≡ true) where
-    abbrev Allows : Last → State → Type 0
+    abbrev Allows : Last → Reader → Type 0
     Allows p s = p ≡ name_last → (T an_import_path ≡ true) ⊎ (starts ed s kinds.Name ≡ true)
 
     import_is : (p : Last) (x : Expected) → ImportOk p x → (p ≡ name_last → (T an_import_path ≡ true) ⊎ ((same kinds.String kinds.Name || false) ≡ true)) → T x ≡ true
@@ -221,7 +221,7 @@ module _ (ed : Edition) (k : TokenKind) (no_type : is_left_out_at a_type k ≡ f
     start_from parameters front next st i = absurd (false_true st)
     start_from results front next st i = absurd (false_true st)
 
-    pub path_from : (s : State) (p : Last) → Right ed s p → Allows p s → starts ed s kinds.String ≡ true → starts ed s kinds.Integer ≡ false → T (label s k) ≡ true
+    pub path_from : (s : Reader) (p : Last) → Right ed s p → Allows p s → starts ed s kinds.String ≡ true → starts ed s kinds.Integer ≡ false → T (label s k) ≡ true
     path_from (ended f) p r n st i = absurd (false_true st)
     path_from (token kind need x next) p r n st i = absurd (false_true (sym (token_starts ed kinds.String x p kind next refl r.0) ∙ st))
     path_from (package_name next) p r n st i = absurd (false_true st)
@@ -252,7 +252,7 @@ module _ (ed : Edition) (k : TokenKind) (no_type : is_left_out_at a_type k ≡ f
     path_from (operands l next) p r n st i = absurd (false_true (sym i))
     path_from (lefts m h l [] next alone range) p r n st i = absurd (false_true st)
     path_from (lefts m h l (e ∷ []) next alone range) p r n st i =
-        let behind : Simple → State = next in
+        let behind : Simple → Reader = next in
         by_call
         (λ c. (c && starts ed (behind (call_statement e)) kinds.String) ≡ true → (c && starts ed (behind (call_statement e)) kinds.Integer) ≡ false →
         T (pick c (label (behind (call_statement e)) k) (behind_left m e)) ≡ true) (is_call e)
@@ -271,7 +271,7 @@ import_path_is an_import e = refl
 import_path_is _ e = absurd (false_true e)
 
 -- where an import is due that may have a name, a name may come
-abbrev pub Nameable : (ed : Edition) → Last → State → Type 0
+abbrev pub Nameable : (ed : Edition) → Last → Reader → Type 0
 Nameable ed p s = (p ≡ nameable) ⊎ Goes ed (kinds.Name ∷ []) s
 
 not_import : {A : Type 0} (x : Expected) → is_import x ≡ false → is_import x ≡ true → A
@@ -300,20 +300,20 @@ start_name ed (statements l) front next q = absurd (false_true q)
 start_name ed parameters front next q = absurd (false_true q)
 start_name ed results front next q = absurd (false_true q)
 
-optional_name : (ed : Edition) → (kind : TokenKind) (p : Last) (need : ℕ) (some : Lexeme → State) (none : State) → is_end p ≡ true → Nameable ed (under kind p) none →
+optional_name : (ed : Edition) → (kind : TokenKind) (p : Last) (need : ℕ) (some : Lexeme → Reader) (none : Reader) → is_end p ≡ true → Nameable ed (under kind p) none →
     Nameable ed p (optional kind need some none)
 optional_name ed kind p need some none en i = by_test (same kind kinds.Name) refl
   where
     by_test : (c : Bool) → same kind kinds.Name ≡ c → Nameable ed p (optional kind need some none)
     by_test true e =
         let t : Lexeme = tok kinds.Name [] nowhere in
-        inr ([], nowhere, subst (λ c. GoesBy (Goes ed []) (cond c (Take need (some t)) (step ed none t))) (sym e) tt)
+        inr ([], nowhere, subst (λ c. GoesBy (Goes ed []) (cond c (Take need (some t)) (parser_step ed none t))) (sym e) tt)
     by_test false e = elim i [
       | inl n ↦ absurd (under_nameable kind p en e n)
       | inr g ↦ inr (optional_goes ed kinds.Name [] kind need some none e g)
     ]
 
-pub import_name : (ed : Edition) → (s : State) (p : Last) → Right ed s p → is_import (label s period) ≡ true → Nameable ed p s
+pub import_name : (ed : Edition) → (s : Reader) (p : Last) → Right ed s p → is_import (label s period) ≡ true → Nameable ed p s
 import_name ed (ended f) p r q = absurd (false_true q)
 import_name ed (token kind need x next) p r q = not_import x (token_off ed is_import refl refl refl refl refl x p kind next r.0) q
 import_name ed (package_name next) p r q = absurd (false_true q)
@@ -328,7 +328,7 @@ import_name ed (optional_expr h l x some none) p r q = inr ([], nowhere, tt)
 import_name ed (suffixes h l e next) p r q = elim (import_name ed (next e) p r.0 q) [
   | inl i ↦ inl i
   | inr g ↦ (let t : Lexeme = tok kinds.Name g.0 g.1 in
-      inr (g.0, g.1, moved (Goes ed []) _ _ (sym (brace_step h l (λ a. suffixes h l a next) t (step ed (next e) t) (literal_type e) refl)) g.2))
+      inr (g.0, g.1, moved (Goes ed []) _ _ (sym (brace_step h l (λ a. suffixes h l a next) t (parser_step ed (next e) t) (literal_type e) refl)) g.2))
 ]
 import_name ed (operators n h l e next) p r q = import_name ed (next e) p r.0 q
 import_name ed (more_names front next) p r q = elim (import_name ed (next front) names (r.1 front) q) [
@@ -341,11 +341,11 @@ import_name ed (list_end s x front next) p r q = not_import x (list_off is_impor
 import_name ed (operands l next) p r q = absurd (false_true q)
 import_name ed (lefts m h l [] next alone range) p r q = absurd (false_true q)
 import_name ed (lefts m h l (e ∷ []) next alone range) p r q =
-    let behind : Simple → State = next in
+    let behind : Simple → Reader = next in
     let part = by_call
     (λ c. is_import (pick c (label (behind (call_statement e)) period) (behind_left m e)) ≡ true →
     (p ≡ nameable) ⊎ ((text : List ℕ) × (place : Place)
-    × GoesBy (Goes ed []) (cond c (step ed (behind (call_statement e)) (tok kinds.Name text place)) (Fail (behind_left m e))))) (is_call e)
+    × GoesBy (Goes ed []) (cond c (parser_step ed (behind (call_statement e)) (tok kinds.Name text place)) (Fail (behind_left m e))))) (is_call e)
     (λ c d. import_name ed (next (call_statement e)) p (r.1 (call_statement e) p (call_end m e p r.0 c)) d)
     (λ c d. not_import (behind_left m e) (left_off ed is_import refl refl m e) d) q in
     elim part [

@@ -7,9 +7,9 @@ use Rattle.go_scan.specs.declared.token.TokenKind.{TokenKind}
 use Rattle.go_scan.specs.declared.keyword.Keyword.TheVariants as keywords
 use Rattle.go_ast.specs.Kinds.{same}
 use Rattle.go_ast.specs.Expected.{Expected, an_operand, a_length, an_index, an_index_end, a_selected_name, an_element_end, a_field_end, a_result_end, behind_a_jump, a_function_name, a_function_opening, another, is_left_out_at}
-use Rattle.go_ast.specs.Trees.{Name, TypeExpr, Expr, Simple, call_statement, conditional, no_else}
+use Rattle.go_ast.specs.Trees.{Name, TypeExpr, Expression, Simple, call_statement, conditional, no_else}
 use Rattle.go_ast.specs.Grammar.{Lexeme, opening_brace, closing_bracket, period, colon, define, is_call, opening_bracket}
-use Rattle.go_ast.specs.Machine.{ListKind, fields, arguments, elements, const_specs, var_specs, type_specs, import_specs, statements, parameters, results, Position, State, ended, token, package_name, import_path, optional, type, optional_type, expr, optional_expr, suffixes, operators, more_names, more_exprs, list_start, list_end, lefts, else_part, clause_start, clause_end, import_end, decl_end, Move, Take, Fail, cond, names_if, may_define, is_header, literal_type, on_brace, on_define, behind_left, step, newer, operands, on_operand, on_expr, keyword}
+use Rattle.go_ast.specs.Machine.{ListKind, fields, arguments, elements, const_specs, var_specs, type_specs, import_specs, statements, parameters, results, Position, Reader, ended, token, package_name, import_path, optional, type, optional_type, expr, optional_expr, suffixes, operators, more_names, more_exprs, list_start, list_end, lefts, else_part, clause_start, clause_end, import_end, decl_end, Move, Take, Fail, cond, names_if, may_define, is_header, literal_type, on_brace, on_define, behind_left, parser_step, newer, operands, on_operand, on_expr, keyword}
 use Rattle.go_ast.proofs.Same.{are_same}
 use Rattle.go_ast.proofs.Base.{false_true}
 use Rattle.go_ast.proofs.LeftOutStates.{Last, other, names, tok, GoesBy, Goes, label, pick, MarkOk, TokenOk, EndOk, Right, under, NewerOk, OptionalOk, OptionalKind, starts}
@@ -21,7 +21,7 @@ use Rattle.go_ast.proofs.LeftOutPlaces.{optional_type_is}
 
 -- what is passed on to the state behind
 
-pub brace_step : (h : Bool) (l : ℕ) (behind : Expr → State) (t : Lexeme) (m : Move) (o : Option TypeExpr) → same opening_brace t.kind ≡ false →
+pub brace_step : (h : Bool) (l : ℕ) (behind : Expression → Reader) (t : Lexeme) (m : Move) (o : Option TypeExpr) → same opening_brace t.kind ≡ false →
     on_brace h l behind t m o ≡ m
 brace_step true l behind t m o e = refl
 brace_step false l behind t m None e = refl
@@ -31,7 +31,7 @@ brace_step false l behind t m (Some a) e = by_test (same opening_brace t.kind) e
     by_test true d n = absurd (false_true (sym d))
     by_test false d n = refl
 
-pub define_step : (m : Position) (h : Bool) (l : ℕ) (next : Simple → State) (range : Name → Expr → State) (t : Lexeme) (x : Move) (o : Option (List Name)) →
+pub define_step : (m : Position) (h : Bool) (l : ℕ) (next : Simple → Reader) (range : Name → Expression → Reader) (t : Lexeme) (x : Move) (o : Option (List Name)) →
     same define t.kind ≡ false → on_define m h l next range t x o ≡ x
 define_step m h l next range t x None e = refl
 define_step m h l next range t x (Some ns) e = by_test (same define t.kind) e _
@@ -46,7 +46,7 @@ header_step true false m n e = refl
 header_step false d m n e = refl
 
 -- but for a bracket and `struct`, a call's first operand begins as an expression
-pub operand_step : (c : Bool) (l : ℕ) (next : Expr → State) (t : Lexeme) → same opening_bracket t.kind ≡ false → same (keyword keywords.Struct) t.kind ≡ false →
+pub operand_step : (c : Bool) (l : ℕ) (next : Expression → Reader) (t : Lexeme) → same opening_bracket t.kind ≡ false → same (keyword keywords.Struct) t.kind ≡ false →
     on_operand c l next t ≡ on_expr 5 false l an_operand next t
 operand_step false l next t e f = refl
 operand_step true l next t e f = by_test (same opening_bracket t.kind) (same (keyword keywords.Struct) t.kind) e f _ _
@@ -64,13 +64,13 @@ abbrev pub is_index_end : Expected → Bool
 is_index_end an_index_end = true
 is_index_end _ = false
 
-abbrev Index : (ed : Edition) → State → Type 0
+abbrev Index : (ed : Edition) → Reader → Type 0
 Index ed s = (is_index_end (label s colon) ≡ true → Goes ed index_end s) × (Goes ed index_end s → is_left_out_at (label s colon) colon ≡ true)
 
-no_index : (ed : Edition) → (s : State) → is_index_end (label s colon) ≡ false → (Goes ed index_end s → ⊥) → Index ed s
+no_index : (ed : Edition) → (s : Reader) → is_index_end (label s colon) ≡ false → (Goes ed index_end s → ⊥) → Index ed s
 no_index ed s e f = ((λ q. absurd (false_true (sym e ∙ q))), λ g. absurd (f g))
 
-bracket_not : (ed : Edition) → (p : Last) (kind : TokenKind) (need : ℕ) (x : Expected) (next : Lexeme → State) → MarkOk ed p kind next → Goes ed index_end (token kind need x next) → ⊥
+bracket_not : (ed : Edition) → (p : Last) (kind : TokenKind) (need : ℕ) (x : Expected) (next : Lexeme → Reader) → MarkOk ed p kind next → Goes ed index_end (token kind need x next) → ⊥
 bracket_not ed p kind need x next off g = by_test (same kind closing_bracket) refl g.2
   where
     by_test : (c : Bool) → same kind closing_bracket ≡ c →
@@ -81,7 +81,7 @@ bracket_not ed p kind need x next off g = by_test (same kind closing_bracket) re
         let t : Lexeme = tok closing_bracket g.0 g.1 in
         false_true (sym (quiet t) ∙ goes_starts ed period [] (next t) refl h)
 
-token_index : (ed : Edition) → (x : Expected) (p : Last) (kind : TokenKind) (need : ℕ) (next : Lexeme → State) → TokenOk ed p kind x next → Index ed (token kind need x next)
+token_index : (ed : Edition) → (x : Expected) (p : Last) (kind : TokenKind) (need : ℕ) (next : Lexeme → Reader) → TokenOk ed p kind x next → Index ed (token kind need x next)
 token_index ed another p kind need next h = no_index ed (token kind need another next) refl (bracket_not ed p kind need another next h.2)
 token_index ed an_index_end p kind need next h = (
   (λ q. subst (λ k. Goes ed index_end (token k need an_index_end next)) (sym h.1) (
@@ -127,19 +127,19 @@ list_index ed parameters another p front next h = no_index ed (list_end paramete
 list_index ed _ _ p front next h = absurd h
 
 -- the same tokens, from a state that passes them on
-pub moved : (P : State → Type 0) (m n : Move) → m ≡ n → GoesBy P m → GoesBy P n
+pub moved : (P : Reader → Type 0) (m n : Move) → m ≡ n → GoesBy P m → GoesBy P n
 moved P m n e g = subst (GoesBy P) e g
 
 abbrev at_period : (ed : Edition) → Move → Type 0
 at_period ed m = GoesBy (Goes ed (period ∷ [])) m
 
 -- in front of a bracket that may be missing an index is due
-optional_index : (ed : Edition) → (kind : TokenKind) (p : Last) (need : ℕ) (some : Lexeme → State) (none : State) → OptionalOk ed p kind some none → Index ed none →
+optional_index : (ed : Edition) → (kind : TokenKind) (p : Last) (need : ℕ) (some : Lexeme → Reader) (none : Reader) → OptionalOk ed p kind some none → Index ed none →
     Index ed (optional kind need some none)
 optional_index ed kind p need some none ok i = by_test (same kind closing_bracket) refl
   where
     go : Bool → List ℕ → Place → Move
-    go c text place = cond c (Take need (some (tok closing_bracket text place))) (step ed none (tok closing_bracket text place))
+    go c text place = cond c (Take need (some (tok closing_bracket text place))) (parser_step ed none (tok closing_bracket text place))
 
     by_test : (c : Bool) → same kind closing_bracket ≡ c → Index ed (optional kind need some none)
     by_test true e =
@@ -150,14 +150,14 @@ optional_index ed kind p need some none ok i = by_test (same kind closing_bracke
       (λ g. i.1 (g.0, g.1, subst (λ c. at_period ed (go c g.0 g.1)) e g.2)),
     )
 
-newer_closing : (ed : Edition) → (p : Last) (kind : TokenKind) (x : Expected) (some : Lexeme → State) → NewerOk ed p kind x some → closing_bracket ≡ kind →
+newer_closing : (ed : Edition) → (p : Last) (kind : TokenKind) (x : Expected) (some : Lexeme → Reader) → NewerOk ed p kind x some → closing_bracket ≡ kind →
     (is_index_end x ≡ false) × ((t : Lexeme) → starts ed (some t) period ≡ false)
 newer_closing ed p kind a_length some h e = (refl, h.2)
 newer_closing ed p kind an_index some h e = absurd (let c : closing_bracket ≡ colon = e ∙ h.1 in cc (c))
 newer_closing ed p kind an_index_end some h e = absurd (let c : closing_bracket ≡ colon = e ∙ h.1 in cc (c))
 newer_closing ed p kind _ some h e = absurd h
 
-newer_index : (ed : Edition) → (kind : TokenKind) (p : Last) (need : ℕ) (x : Expected) (some : Lexeme → State) (none : State) → NewerOk ed p kind x some →
+newer_index : (ed : Edition) → (kind : TokenKind) (p : Last) (need : ℕ) (x : Expected) (some : Lexeme → Reader) (none : Reader) → NewerOk ed p kind x some →
     label none colon ≡ x → Index ed none → Index ed (newer kind need x some none)
 newer_index ed kind p need x some none ok alike i = by_test (same kind closing_bracket) refl
   where
@@ -165,7 +165,7 @@ newer_index ed kind p need x some none ok alike i = by_test (same kind closing_b
     same_label = newer_label kind need x some none colon alike
 
     go : Bool → List ℕ → Place → Move
-    go c text place = cond c (cond (has_slices ed) (Take need (some (tok closing_bracket text place))) (Fail x)) (step ed none (tok closing_bracket text place))
+    go c text place = cond c (cond (has_slices ed) (Take need (some (tok closing_bracket text place))) (Fail x)) (parser_step ed none (tok closing_bracket text place))
 
     never : (t : Lexeme) → starts ed (some t) period ≡ false → (b : Bool) → at_period ed (cond b (Take need (some t)) (Fail x)) → ⊥
     never t quiet true g = false_true (sym quiet ∙ goes_starts ed period [] (some t) refl g)
@@ -181,7 +181,7 @@ newer_index ed kind p need x some none ok alike i = by_test (same kind closing_b
       (λ g. ap (λ y. is_left_out_at y colon) same_label ∙ i.1 (g.0, g.1, subst (λ c. at_period ed (go c g.0 g.1)) e g.2)),
     )
 
-pub index : (ed : Edition) → (s : State) (p : Last) → Right ed s p → Index ed s
+pub index : (ed : Edition) → (s : Reader) (p : Last) → Right ed s p → Index ed s
 index ed (ended f) p r = no_index ed (ended f) refl (λ g. g.2)
 index ed (token kind need x next) p r = token_index ed x p kind need next r.0
 index ed (package_name next) p r = no_index ed (package_name next) refl (λ g. g.2)
@@ -196,7 +196,7 @@ index ed (expr n h l x next) p r =
 index ed (optional_expr h l x some none) p r = subst (λ y. Index ed (optional_expr h l y some none)) (sym r.1) (index ed none p r.4)
 index ed (suffixes h l e next) p r =
     let i = index ed (next e) p r.0 in
-    let at = λ (text : List ℕ) (place : Place). brace_step h l (λ a. suffixes h l a next) (tok closing_bracket text place) (step ed (next e) (tok closing_bracket text place))
+    let at = λ (text : List ℕ) (place : Place). brace_step h l (λ a. suffixes h l a next) (tok closing_bracket text place) (parser_step ed (next e) (tok closing_bracket text place))
     (literal_type e) refl in (
       (λ q. (let g = i.0 q in (g.0, g.1, moved (Goes ed (period ∷ [])) _ _ (sym (at g.0 g.1)) g.2))),
       (λ g. i.1 (g.0, g.1, moved (Goes ed (period ∷ [])) _ _ (at g.0 g.1) g.2)),
@@ -211,19 +211,19 @@ index ed (operands l next) p r =
     (λ g. moved (Goes ed (period ∷ [])) _ _ (operand_step (has_slices ed) l (λ e. list_end (arguments l) another (e ∷ []) next) (tok closing_bracket g.0 g.1) refl refl) g.2)
 index ed (lefts m h l [] next alone range) p r = no_index ed (lefts m h l [] next alone range) refl (λ g. g.2)
 index ed (lefts m h l (e ∷ []) next alone range) p r =
-    let behind : Simple → State = next in
+    let behind : Simple → Reader = next in
     let go : List ℕ → Place → Move = λ text place.
-    cond (is_call e) (step ed (behind (call_statement e)) (tok closing_bracket text place)) (Fail (behind_left m e)) in
+    cond (is_call e) (parser_step ed (behind (call_statement e)) (tok closing_bracket text place)) (Fail (behind_left m e)) in
     let at = λ (text : List ℕ) (place : Place).
     define_step m h l next range (tok closing_bracket text place)
-    (cond (is_header m && false) (step ed (alone e) (tok closing_bracket text place)) (go text place)) (names_if (e ∷ [])) refl
-    ∙ header_step (is_header m) false (step ed (alone e) (tok closing_bracket text place)) (go text place) refl in
+    (cond (is_header m && false) (parser_step ed (alone e) (tok closing_bracket text place)) (go text place)) (names_if (e ∷ [])) refl
+    ∙ header_step (is_header m) false (parser_step ed (alone e) (tok closing_bracket text place)) (go text place) refl in
     let part = by_call
     (λ c. (is_index_end (pick c (label (next (call_statement e)) colon) (behind_left m e)) ≡ true →
     (text : List ℕ) × (place : Place)
-    × GoesBy (Goes ed (period ∷ [])) (cond c (step ed (next (call_statement e)) (tok closing_bracket text place)) (Fail (behind_left m e))))
+    × GoesBy (Goes ed (period ∷ [])) (cond c (parser_step ed (next (call_statement e)) (tok closing_bracket text place)) (Fail (behind_left m e))))
     × ((text : List ℕ) × (place : Place)
-    × GoesBy (Goes ed (period ∷ [])) (cond c (step ed (next (call_statement e)) (tok closing_bracket text place)) (Fail (behind_left m e))) →
+    × GoesBy (Goes ed (period ∷ [])) (cond c (parser_step ed (next (call_statement e)) (tok closing_bracket text place)) (Fail (behind_left m e))) →
     is_left_out_at (pick c (label (next (call_statement e)) colon) (behind_left m e)) colon ≡ true)) (is_call e)
     (λ c. index ed (next (call_statement e)) p (r.1 (call_statement e) p (call_end m e p r.0 c)))
     (λ c. ((λ q. absurd (false_true (sym (left_off ed is_index_end refl refl m e) ∙ q))), λ g. absurd g.2)) in (

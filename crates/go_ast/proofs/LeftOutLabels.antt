@@ -6,9 +6,9 @@ use Rattle.go_scan.specs.declared.token.TokenKind.TheVariants as kinds
 use Rattle.go_scan.specs.declared.punctuation.Punctuation.TheVariants as marks
 use Rattle.go_ast.specs.Kinds.{same}
 use Rattle.go_ast.specs.Expected.{Expected, an_operand, a_value, a_type, a_declared_type, a_parameter_type, a_length, an_index, an_index_end, a_selected_name, an_element_end, a_field_end, a_result_end, behind_a_name, behind_a_jump, a_function_name, a_function_opening, an_import, an_import_path, another, is_left_out_at}
-use Rattle.go_ast.specs.Trees.{TypeExpr, Expr, name, call_statement, conditional, no_else}
+use Rattle.go_ast.specs.Trees.{TypeExpr, Expression, name, call_statement, conditional, no_else}
 use Rattle.go_ast.specs.Grammar.{Lexeme, is_call}
-use Rattle.go_ast.specs.Machine.{ListKind, fields, arguments, elements, const_specs, var_specs, type_specs, import_specs, statements, parameters, results, Position, in_list, in_header, in_for, behind_turns, State, ended, token, package_name, import_path, optional, type, optional_type, expr, optional_expr, suffixes, operators, more_names, more_exprs, list_start, list_end, lefts, else_part, clause_start, clause_end, import_end, decl_end, behind_left, newer, operands}
+use Rattle.go_ast.specs.Machine.{ListKind, fields, arguments, elements, const_specs, var_specs, type_specs, import_specs, statements, parameters, results, Position, in_list, in_header, in_for, behind_turns, Reader, ended, token, package_name, import_path, optional, type, optional_type, expr, optional_expr, suffixes, operators, more_names, more_exprs, list_start, list_end, lefts, else_part, clause_start, clause_end, import_end, decl_end, behind_left, newer, operands}
 use Rattle.go_ast.proofs.Base.{false_true}
 use Rattle.go_ast.proofs.LeftOutStates.{Last, other, name_last, names, passed, first_name, func_name, bracket, dot, equals, func, jump, nameable, is_end, is_plain, is_mark, under, is_alone, pick, start_label, label, TokenOk, ImportOk, TypeOk, OptionalTypeOk, ExprOk, EndOk, LeftsOk, ClauseOk, Right, bounded, NewerOk}
 use Rattle.go_ast.proofs.LeftOutKept.{plain_end}
@@ -49,7 +49,7 @@ end_label p x en e = plain_label p x (plain_end p en) e
 other_label : (p : Last) (x : Expected) → p ≡ other → is_fixed x ≡ false → LabelAt p x
 other_label p x e fixed = plain_label p x (ap is_plain e) fixed
 
-token_label : (ed : Edition) → (x : Expected) (p : Last) (k : TokenKind) (next : Lexeme → State) → TokenOk ed p k x next → LabelAt p x
+token_label : (ed : Edition) → (x : Expected) (p : Last) (k : TokenKind) (next : Lexeme → Reader) → TokenOk ed p k x next → LabelAt p x
 token_label ed another p k next h = plain_label p another h.0 refl
 token_label ed an_index_end p k next h = end_label p an_index_end h.0 refl
 token_label ed a_selected_name p k next h = subst (λ q. LabelAt q a_selected_name) (sym h.0) refl
@@ -68,7 +68,7 @@ under_label (kinds.Punctuation marks.Colon) p x e h = end_label p x e h
 under_label (kinds.Punctuation marks.CloseBracket) p x e h = end_label p x e h
 under_label _ p x e h = h
 
-type_label : (ed : Edition) → (p : Last) (x : Expected) (next : TypeExpr → State) → TypeOk ed p x next → LabelAt p x
+type_label : (ed : Edition) → (p : Last) (x : Expected) (next : TypeExpr → Reader) → TypeOk ed p x next → LabelAt p x
 type_label ed other a_type next h = refl
 type_label ed names a_type next h = refl
 type_label ed names a_parameter_type next h = refl
@@ -79,12 +79,12 @@ pick_label : (d : Bool) (p : Last) (x y : Expected) → LabelAt p x → LabelAt 
 pick_label true p x y h i = h
 pick_label false p x y h i = i
 
-optional_type_label : (ed : Edition) → (p : Last) (x : Expected) (some : TypeExpr → State) (none : State) → OptionalTypeOk ed p x some none → LabelAt p x
+optional_type_label : (ed : Edition) → (p : Last) (x : Expected) (some : TypeExpr → Reader) (none : Reader) → OptionalTypeOk ed p x some none → LabelAt p x
 optional_type_label ed other a_type some none h = refl
 optional_type_label ed names a_type some none h = refl
 optional_type_label ed _ _ some none h = absurd h
 
-expr_label : (ed : Edition) → (p : Last) (x : Expected) (s : State) → ExprOk ed p x s → LabelAt p x
+expr_label : (ed : Edition) → (p : Last) (x : Expected) (s : Reader) → ExprOk ed p x s → LabelAt p x
 expr_label ed other an_operand s h = refl
 expr_label ed equals a_value s h = refl
 expr_label ed bracket a_length s h = inl refl
@@ -92,7 +92,7 @@ expr_label ed bracket an_index s h = inr refl
 expr_label ed bounded an_index s h = refl
 expr_label ed _ _ s h = absurd h
 
-newer_label_at : (ed : Edition) → (p : Last) (kind : TokenKind) (x : Expected) (some : Lexeme → State) → NewerOk ed p kind x some → LabelAt p x
+newer_label_at : (ed : Edition) → (p : Last) (kind : TokenKind) (x : Expected) (some : Lexeme → Reader) → NewerOk ed p kind x some → LabelAt p x
 newer_label_at ed p kind a_length some h = subst (λ q. LabelAt q a_length) (sym h.0) (inl refl)
 newer_label_at ed p kind an_index some h = subst (λ q. LabelAt q an_index) (sym h.0) (inr refl)
 newer_label_at ed p kind an_index_end some h = end_label p an_index_end h.0 refl
@@ -125,7 +125,7 @@ list_label import_specs another p h = end_label p another h refl
 list_label parameters another p h = end_label p another h refl
 list_label _ _ p h = absurd h
 
-left_label : (m : Position) (e : Expr) (p : Last) → LeftsOk (is_alone m (e ∷ [])) p → LabelAt p (behind_left m e)
+left_label : (m : Position) (e : Expression) (p : Last) → LeftsOk (is_alone m (e ∷ [])) p → LabelAt p (behind_left m e)
 left_label in_list (name q text) p h = subst (λ r. LabelAt r behind_a_name) (sym h) refl
 left_label in_list _ p h = end_label p another h refl
 left_label in_header e p h = end_label p another h refl
@@ -149,11 +149,11 @@ by_call P true f g = f refl
 by_call P false f g = g refl
 
 -- behind a call the last token ends something
-pub call_end : (m : Position) (e : Expr) (p : Last) → LeftsOk (is_alone m (e ∷ [])) p → is_call e ≡ true → is_end p ≡ true
+pub call_end : (m : Position) (e : Expression) (p : Last) → LeftsOk (is_alone m (e ∷ [])) p → is_call e ≡ true → is_end p ≡ true
 call_end m e p h c = subst (λ x. LeftsOk x p) (alone_call m e c) h
 
 -- the label in a state goes with the last token
-pub labelled : (ed : Edition) → (s : State) (p : Last) (k : TokenKind) → Right ed s p → LabelAt p (label s k)
+pub labelled : (ed : Edition) → (s : Reader) (p : Last) (k : TokenKind) → Right ed s p → LabelAt p (label s k)
 labelled ed (ended f) p k r = end_label p another r refl
 labelled ed (token kind need x next) p k r = token_label ed x p kind next r.0
 labelled ed (package_name next) p k r = other_label p another r.0 refl
@@ -194,7 +194,7 @@ pub or_right : (a b c : Bool) → a ≡ false → c ≡ b → c ≡ (a || b)
 or_right true b c e q = absurd (false_true (sym e))
 or_right false b c e q = q
 
-pub token_silent : (ed : Edition) → (k : TokenKind) (x : Expected) (p : Last) (kind : TokenKind) (next : Lexeme → State) → is_left_out_at another k ≡ false →
+pub token_silent : (ed : Edition) → (k : TokenKind) (x : Expected) (p : Last) (kind : TokenKind) (next : Lexeme → Reader) → is_left_out_at another k ≡ false →
     is_left_out_at an_index_end k ≡ false → is_left_out_at a_selected_name k ≡ false → is_left_out_at a_function_name k ≡ false →
     is_left_out_at a_function_opening k ≡ false → TokenOk ed p kind x next → is_left_out_at x k ≡ false
 token_silent ed k another p kind next a b c d e h = a
@@ -205,7 +205,7 @@ token_silent ed k a_function_opening p kind next a b c d e h = e
 token_silent ed k _ p kind next a b c d e h = absurd h
 
 -- the kinds of tokens that are due
-pub token_mark : (ed : Edition) → (x : Expected) (p : Last) (kind : TokenKind) (next : Lexeme → State) → TokenOk ed p kind x next → is_mark kind ≡ true
+pub token_mark : (ed : Edition) → (x : Expected) (p : Last) (kind : TokenKind) (next : Lexeme → Reader) → TokenOk ed p kind x next → is_mark kind ≡ true
 token_mark ed another p kind next h = h.1
 token_mark ed an_index_end p kind next h = ap is_mark h.1
 token_mark ed a_selected_name p kind next h = ap is_mark h.1
@@ -214,6 +214,6 @@ token_mark ed a_function_opening p kind next h = ap is_mark h.1
 token_mark ed _ p kind next h = absurd h
 
 -- no token of a kind that is due is of this kind
-pub token_starts : (ed : Edition) → (j : TokenKind) (x : Expected) (p : Last) (kind : TokenKind) (next : Lexeme → State) → is_mark j ≡ false → TokenOk ed p kind x next →
+pub token_starts : (ed : Edition) → (j : TokenKind) (x : Expected) (p : Last) (kind : TokenKind) (next : Lexeme → Reader) → is_mark j ≡ false → TokenOk ed p kind x next →
     (same kind j || false) ≡ false
 token_starts ed j x p kind next e h = sym (or_right (same kind j) false false (mark_not kind j (token_mark ed x p kind next h) e) refl)

@@ -12,7 +12,7 @@ use Rattle.go_ast.specs.Operators.{binary_of}
 use Rattle.go_ast.specs.Expected.{Expected, a_type, an_index_end, a_selected_name, a_function_name, a_function_opening, another, is_left_out_at, a_length, an_index}
 use Rattle.go_ast.specs.Trees.{TypeExpr, name, call_statement, conditional, no_else}
 use Rattle.go_ast.specs.Grammar.{Lexeme, opening_brace, closing_brace, comma, semicolon, is_call, closing}
-use Rattle.go_ast.specs.Machine.{ListKind, fields, arguments, elements, const_specs, var_specs, type_specs, import_specs, statements, parameters, results, separator, closer, State, ended, token, package_name, import_path, optional, type, optional_type, expr, optional_expr, suffixes, operators, more_names, more_exprs, list_start, list_end, lefts, else_part, clause_start, clause_end, import_end, decl_end, Move, Take, Fail, cond, keyword, is_string, on_optional, behind_left, is_header, with_clause, step, newer, operands}
+use Rattle.go_ast.specs.Machine.{ListKind, fields, arguments, elements, const_specs, var_specs, type_specs, import_specs, statements, parameters, results, separator, closer, Reader, ended, token, package_name, import_path, optional, type, optional_type, expr, optional_expr, suffixes, operators, more_names, more_exprs, list_start, list_end, lefts, else_part, clause_start, clause_end, import_end, decl_end, Move, Take, Fail, cond, keyword, is_string_token, on_optional, behind_left, is_header, with_clause, parser_step, newer, operands}
 use Rattle.go_ast.proofs.Same.{are_same, not_same}
 use Rattle.go_ast.proofs.Base.{false_true, both_true}
 use Rattle.go_ast.proofs.Tokens.{is_package, package_is, string_is}
@@ -79,7 +79,7 @@ mark_tells (kinds.Keyword keywords.Break) p pl m = absurd (false_true m)
 mark_tells (kinds.Keyword keywords.Continue) p pl m = absurd (false_true m)
 mark_tells _ p pl m = refl
 
-token_tells : (ed : Edition) → (x : Expected) (p : Last) (k : TokenKind) (next : Lexeme → State) → TokenOk ed p k x next →
+token_tells : (ed : Edition) → (x : Expected) (p : Last) (k : TokenKind) (next : Lexeme → Reader) → TokenOk ed p k x next →
     Tells (after k x) p (same k (keyword keywords.Return) || false) k
 token_tells ed another p k next h = mark_tells k p h.0 h.1
 token_tells ed an_index_end p k next h =
@@ -92,7 +92,7 @@ token_tells ed a_function_opening p k next h =
     subst (λ j. Tells (after j a_function_opening) p (same j (keyword keywords.Return) || false) j) (sym h.1) refl
 token_tells ed _ p k next h = absurd h
 
-optional_tells : (ed : Edition) → (k : TokenKind) (p : Last) (some : Lexeme → State) (none : State) → OptionalOk ed p k some none →
+optional_tells : (ed : Edition) → (k : TokenKind) (p : Last) (some : Lexeme → Reader) (none : Reader) → OptionalOk ed p k some none →
     Tells (behind_optional k) p (same k (keyword keywords.Return) || starts ed none (keyword keywords.Return)) k
 optional_tells ed kinds.Name p some none h = (refl, ap is_func h.2.3, h.2.2)
 optional_tells ed (kinds.Punctuation marks.Period) p some none h = refl
@@ -118,14 +118,14 @@ mark_not k j there not = not_same k j (λ e. false_true (sym not ∙ ap is_mark 
 
 -- a token that came with slices
 
-pub newer_kind : (ed : Edition) → (p : Last) (kind : TokenKind) (x : Expected) (some : Lexeme → State) → NewerOk ed p kind x some →
+pub newer_kind : (ed : Edition) → (p : Last) (kind : TokenKind) (x : Expected) (some : Lexeme → Reader) → NewerOk ed p kind x some →
     (is_newer kind ≡ true) × (is_special kind ≡ false)
 newer_kind ed p kind a_length some h = (ap is_newer h.1, ap is_special h.1)
 newer_kind ed p kind an_index some h = (ap is_newer h.1, ap is_special h.1)
 newer_kind ed p kind an_index_end some h = (ap is_newer h.1, ap is_special h.1)
 newer_kind ed p kind _ some h = absurd h
 
-pub newer_not : (ed : Edition) → (p : Last) (kind : TokenKind) (x : Expected) (some : Lexeme → State) (j : TokenKind) → NewerOk ed p kind x some →
+pub newer_not : (ed : Edition) → (p : Last) (kind : TokenKind) (x : Expected) (some : Lexeme → Reader) (j : TokenKind) → NewerOk ed p kind x some →
     is_newer j ≡ false → same kind j ≡ false
 newer_not ed p kind x some j h not = not_same kind j (λ e. false_true (sym not ∙ ap is_newer e ∙ (newer_kind ed p kind x some h).0))
 
@@ -134,7 +134,7 @@ by_newer_other true e b q = absurd (false_true (sym q))
 by_newer_other false e b q = refl
 
 -- other tokens come as what may be read instead has them
-pub newer_starts : (ed : Edition) → (p : Last) (kind : TokenKind) (need : ℕ) (x : Expected) (some : Lexeme → State) (none : State) (j : TokenKind) →
+pub newer_starts : (ed : Edition) → (p : Last) (kind : TokenKind) (need : ℕ) (x : Expected) (some : Lexeme → Reader) (none : Reader) (j : TokenKind) →
     NewerOk ed p kind x some → is_newer j ≡ false → starts ed (newer kind need x some none) j ≡ starts ed none j
 newer_starts ed p kind need x some none j h not = by_newer_other (same kind j) (has_slices ed) (starts ed none j) (newer_not ed p kind x some j h not)
 
@@ -143,21 +143,21 @@ picked_alike true x y e = sym e
 picked_alike false x y e = refl
 
 -- and so is what is expected
-pub newer_label : (kind : TokenKind) (need : ℕ) (x : Expected) (some : Lexeme → State) (none : State) (k : TokenKind) → label none k ≡ x →
+pub newer_label : (kind : TokenKind) (need : ℕ) (x : Expected) (some : Lexeme → Reader) (none : Reader) (k : TokenKind) → label none k ≡ x →
     label (newer kind need x some none) k ≡ label none k
 newer_label kind need x some none k e = picked_alike (same kind k) x (label none k) e
 
-type_func : (ed : Edition) → (p : Last) (x : Expected) (next : TypeExpr → State) → TypeOk ed p x next → is_func p ≡ false
+type_func : (ed : Edition) → (p : Last) (x : Expected) (next : TypeExpr → Reader) → TypeOk ed p x next → is_func p ≡ false
 type_func ed func x next h = absurd h
 type_func ed _ x next h = refl
 
-optional_silent : (ed : Edition) → (p : Last) (x : Expected) (some : TypeExpr → State) (none : State) → OptionalTypeOk ed p x some none →
+optional_silent : (ed : Edition) → (p : Last) (x : Expected) (some : TypeExpr → Reader) (none : Reader) → OptionalTypeOk ed p x some none →
     (is_func p ≡ false) × (starts ed none (keyword keywords.Return) ≡ false)
 optional_silent ed other a_type some none h = (refl, h)
 optional_silent ed names a_type some none h = (refl, h.2)
 optional_silent ed _ _ some none h = absurd h
 
-expr_func : (ed : Edition) → (p : Last) (x : Expected) (s : State) → ExprOk ed p x s → is_func p ≡ false
+expr_func : (ed : Edition) → (p : Last) (x : Expected) (s : Reader) → ExprOk ed p x s → is_func p ≡ false
 expr_func ed func x s h = absurd h
 expr_func ed _ x s h = refl
 
@@ -216,7 +216,7 @@ call_led ed p b k true d m n x f g = f refl
 call_led ed p b k false true m n x f g = g refl
 call_led ed p b k false false m n x f g = tt
 
-pub led : (ed : Edition) → (s : State) (p : Last) (t : Lexeme) → Right ed s p → Led ed p (starts ed s (keyword keywords.Return)) t.kind (step ed s t)
+pub led : (ed : Edition) → (s : Reader) (p : Last) (t : Lexeme) → Right ed s p → Led ed p (starts ed s (keyword keywords.Return)) t.kind (parser_step ed s t)
 led ed (ended f) p t r = tt
 led ed (token kind need x next) p t r =
     led_cond ed p _ t.kind (same kind t.kind) _ _
@@ -228,7 +228,7 @@ led ed (token kind need x next) p t r =
 led ed (package_name next) p t r =
     led_cond ed p _ t.kind (is_package t) _ _ (λ k. (name_last, ((package_is t k).0, ap is_func r.0, refl), r.1 t)) (λ _. tt)
 led ed (import_path x next) p t r =
-    led_cond ed p _ t.kind (is_string (codes "C") t) _ _ (λ k. (other, ap is_special (string_is t k).0, r.1 t)) (λ _. tt)
+    led_cond ed p _ t.kind (is_string_token (codes "C") t) _ _ (λ k. (other, ap is_special (string_is t k).0, r.1 t)) (λ _. tt)
 led ed (optional kind need some none) p t r =
     led_cond ed p _ t.kind (same kind t.kind) _ _
     (λ k. (
@@ -237,14 +237,14 @@ led ed (optional kind need some none) p t r =
           (sym (are_same kind t.kind k)) (optional_tells ed kind p some none r.0),
       r.1 t,
     ))
-    (λ _. led_func ed p (under kind p) _ t.kind (step ed none t) (under_func kind p r.0.0)
-    (subst (λ b. Led ed (under kind p) (b || starts ed none (keyword keywords.Return)) t.kind (step ed none t))
+    (λ _. led_func ed p (under kind p) _ t.kind (parser_step ed none t) (under_func kind p r.0.0)
+    (subst (λ b. Led ed (under kind p) (b || starts ed none (keyword keywords.Return)) t.kind (parser_step ed none t))
     (sym (optional_not kind (keyword keywords.Return) r.0.1 refl)) (led ed none (under kind p) t r.2)))
 led ed (newer kind need x some none) p t r =
     led_cond ed p _ t.kind (same kind t.kind) _ _
     (λ k. led_cond ed p _ t.kind (has_slices ed) _ _
     (λ e. (other, ap is_special (are_same kind t.kind k) ∙ (newer_kind ed p kind x some r.0).1, r.1 t)) (λ e. tt))
-    (λ _. subst (λ b. Led ed p b t.kind (step ed none t)) (sym (newer_starts ed p kind need x some none (keyword keywords.Return) r.0 refl)) (led ed none p t r.2))
+    (λ _. subst (λ b. Led ed p b t.kind (parser_step ed none t)) (sym (newer_starts ed p kind need x some none (keyword keywords.Return) r.0 refl)) (led ed none p t r.2))
 led ed (type l x next) p t r = on_type_led ed p false l x next t (type_func ed p x next r.0) refl r.1
 led ed (optional_type l x some none) p t r =
     let q = optional_silent ed p x some none r.0 in
@@ -252,7 +252,7 @@ led ed (optional_type l x some none) p t r =
     let b : starts ed none (keyword keywords.Return) ≡ veto d (starts ed none (keyword keywords.Return)) = veto_false d (starts ed none (keyword keywords.Return)) q.1 in
     led_optional ed p (veto d (starts ed none (keyword keywords.Return))) t.kind _ _ x _ _
     (on_type_led ed p (veto d (starts ed none (keyword keywords.Return))) l x some t q.0 (sym b ∙ q.1) r.1)
-    (subst (λ c. Led ed p c t.kind (step ed none t)) b (led ed none p t r.2))
+    (subst (λ c. Led ed p c t.kind (parser_step ed none t)) b (led ed none p t r.2))
 led ed (expr n h l x next) p t r =
     on_expr_led ed p false n h l x next t (λ e. (passed, (e, expr_func ed p x (expr n h l x next) r.0, refl), r.1 (name t.place t.text) passed refl))
     (λ a q en nl. r.1 a q en)
@@ -262,13 +262,13 @@ led ed (optional_expr h l x some none) p t r =
     led_optional ed p (veto d (starts ed none (keyword keywords.Return))) t.kind _ _ x _ _
     (on_expr_led ed p (veto d (starts ed none (keyword keywords.Return))) 5 h l x some t
     (λ e. (passed, (e, ap is_func r.0, sym b ∙ r.2), r.3 (name t.place t.text) passed refl)) (λ a q en nl. r.3 a q en))
-    (subst (λ c. Led ed p c t.kind (step ed none t)) b (led ed none p t r.4))
-led ed (suffixes h l e next) p t r = suffix_led ed p _ h l e next t (step ed (next e) t) r.1 (led ed (next e) p t r.0)
-led ed (operators n h l e next) p t r = operator_led ed p _ n h l e next t.kind (step ed (next e) t) (binary_of t.kind) refl r.1 (led ed (next e) p t r.0)
+    (subst (λ c. Led ed p c t.kind (parser_step ed none t)) b (led ed none p t r.4))
+led ed (suffixes h l e next) p t r = suffix_led ed p _ h l e next t (parser_step ed (next e) t) r.1 (led ed (next e) p t r.0)
+led ed (operators n h l e next) p t r = operator_led ed p _ n h l e next t.kind (parser_step ed (next e) t) (binary_of t.kind) refl r.1 (led ed (next e) p t r.0)
 led ed (more_names front next) p t r =
     led_cond ed p _ t.kind (same comma t.kind) _ _
     (λ k. (other, ap is_special (are_same comma t.kind k), ((refl, refl, refl), λ n. (refl, r.1, r.2))))
-    (λ _. led_func ed p names _ t.kind (step ed (next front) t) (sym (ap is_func r.0)) (led ed (next front) names t (r.1 front)))
+    (λ _. led_func ed p names _ t.kind (parser_step ed (next front) t) (sym (ap is_func r.0)) (led ed (next front) names t (r.1 front)))
 led ed (more_exprs h l front next) p t r =
     led_cond ed p _ t.kind (same comma t.kind) _ _
     (λ k. (other, ap is_special (are_same comma t.kind k), (tt, λ e q en. (en, r.1, r.2)))) (λ _. led ed (next front) p t (r.1 front p r.0))
@@ -290,11 +290,11 @@ led ed (lefts m h l [] next alone range) p t r = tt
 led ed (lefts m h l (e ∷ []) next alone range) p t r =
     lefts_led ed p _ m h l (e ∷ []) next alone range t _ (λ f. alone_two m e f []) r.1 r.2 r.3 r.4
     (left_led ed p _ h l e next t _ r.1
-    (call_led ed p _ t.kind (is_header m && same opening_brace t.kind) (is_call e) (step ed (alone e) t) (step ed (next (call_statement e)) t) (behind_left m e)
+    (call_led ed p _ t.kind (is_header m && same opening_brace t.kind) (is_call e) (parser_step ed (alone e) t) (parser_step ed (next (call_statement e)) t) (behind_left m e)
     (λ c. (let hd = both_true (is_header m) (same opening_brace t.kind) c in
-    led_brace ed p (starts ed (alone e) (keyword keywords.Return)) _ t.kind (step ed (alone e) t) (are_same opening_brace t.kind hd.1)
+    led_brace ed p (starts ed (alone e) (keyword keywords.Return)) _ t.kind (parser_step ed (alone e) t) (are_same opening_brace t.kind hd.1)
     (led ed (alone e) p t (r.2 hd.0 e p (subst (λ x. LeftsOk x p) (alone_header m (e ∷ []) hd.0) r.0)))))
-    (λ c. subst (λ x. Led ed p (x && starts ed (next (call_statement e)) (keyword keywords.Return)) t.kind (step ed (next (call_statement e)) t)) (sym c)
+    (λ c. subst (λ x. Led ed p (x && starts ed (next (call_statement e)) (keyword keywords.Return)) t.kind (parser_step ed (next (call_statement e)) t)) (sym c)
     (led ed (next (call_statement e)) p t (r.1 (call_statement e) p (subst (λ x. LeftsOk x p) (alone_call m e c) r.0))))))
 led ed (lefts m h l (e ∷ f ∷ es) next alone range) p t r =
     lefts_led ed p _ m h l (e ∷ f ∷ es) next alone range t _ (λ g. alone_two m e f (es ++ g ∷ [])) r.1 r.2 r.3 r.4 tt

@@ -4,9 +4,9 @@ use Rattle.go_text.specs.declared.edition.Edition.{Edition}
 use Rattle.go_text.specs.declared.place.Place.{Place}
 use Rattle.go_scan.specs.declared.token.TokenKind.TheVariants as kinds
 use Rattle.go_ast.specs.Expected.{Expected, a_length, an_index, an_element_end, a_field_end, a_result_end, behind_a_jump, another}
-use Rattle.go_ast.specs.Trees.{Expr}
+use Rattle.go_ast.specs.Trees.{Expression}
 use Rattle.go_ast.specs.Grammar.{closing_bracket, period, colon}
-use Rattle.go_ast.specs.Machine.{ListKind, fields, arguments, elements, const_specs, var_specs, type_specs, import_specs, statements, parameters, results, State, ended, token, package_name, import_path, optional, type, optional_type, expr, optional_expr, suffixes, operators, more_names, more_exprs, list_start, list_end, lefts, else_part, clause_start, clause_end, import_end, decl_end, literal_type, step, newer, operands}
+use Rattle.go_ast.specs.Machine.{ListKind, fields, arguments, elements, const_specs, var_specs, type_specs, import_specs, statements, parameters, results, Reader, ended, token, package_name, import_path, optional, type, optional_type, expr, optional_expr, suffixes, operators, more_names, more_exprs, list_start, list_end, lefts, else_part, clause_start, clause_end, import_end, decl_end, literal_type, parser_step, newer, operands}
 use Rattle.go_ast.proofs.Base.{false_true}
 use Rattle.go_ast.proofs.LeftOutStates.{bracket, tok, Goes, label, ExprOk, EndOk, Right, index_tail, is_alone, LeftsOk}
 use Rattle.go_ast.proofs.LeftOutTests.{import_off, type_off, clause_off}
@@ -25,13 +25,13 @@ is_length a_length = true
 is_length _ = false
 
 -- the label in a state behind a bracket
-abbrev pub Measured : (ed : Edition) → State → Type 0
+abbrev pub Measured : (ed : Edition) → Reader → Type 0
 Measured ed s = (is_indexed (label s colon) ≡ true → Goes ed index_tail s) × (is_length (label s colon) ≡ true → Goes ed index_tail s → ⊥)
 
-neither_one : (ed : Edition) → (s : State) → is_indexed (label s colon) ≡ false → is_length (label s colon) ≡ false → Measured ed s
+neither_one : (ed : Edition) → (s : Reader) → is_indexed (label s colon) ≡ false → is_length (label s colon) ≡ false → Measured ed s
 neither_one ed s e f = ((λ q. absurd (false_true (sym e ∙ q))), λ q. absurd (false_true (sym f ∙ q)))
 
-expr_measured : (ed : Edition) → (n : ℕ) (h : Bool) (l : ℕ) (x : Expected) (next : Expr → State) → ExprOk ed bracket x (expr n h l x next) → Measured ed (expr n h l x next)
+expr_measured : (ed : Edition) → (n : ℕ) (h : Bool) (l : ℕ) (x : Expected) (next : Expression → Reader) → ExprOk ed bracket x (expr n h l x next) → Measured ed (expr n h l x next)
 expr_measured ed n h l a_length next r = ((λ q. absurd (false_true q)), λ q g. r g)
 expr_measured ed n h l an_index next r = ((λ q. r), λ q. absurd (false_true q))
 expr_measured ed n h l _ next r = absurd r
@@ -55,7 +55,7 @@ no_lefts : {A : Type 0} (c : Bool) → LeftsOk c bracket → A
 no_lefts true h = absurd (cc (h))
 no_lefts false h = absurd (false_true h)
 
-pub measured : (ed : Edition) → (s : State) → Right ed s bracket → Measured ed s
+pub measured : (ed : Edition) → (s : Reader) → Right ed s bracket → Measured ed s
 measured ed (ended f) r = absurd (false_true r)
 measured ed (token kind need x next) r =
     neither_one ed (token kind need x next) (token_off ed is_indexed refl refl refl refl refl x bracket kind next r.0)
@@ -78,7 +78,7 @@ measured ed (expr n h l x next) r = expr_measured ed n h l x next r.0
 measured ed (optional_expr h l x some none) r = absurd (cc (r.0))
 measured ed (suffixes h l e next) r =
     let i = measured ed (next e) r.0 in
-    let at = λ (text : List ℕ) (place : Place). brace_step h l (λ a. suffixes h l a next) (tok kinds.Integer text place) (step ed (next e) (tok kinds.Integer text place))
+    let at = λ (text : List ℕ) (place : Place). brace_step h l (λ a. suffixes h l a next) (tok kinds.Integer text place) (parser_step ed (next e) (tok kinds.Integer text place))
     (literal_type e) refl in (
       (λ q. (let g = i.0 q in (g.0, g.1, moved (Goes ed (closing_bracket ∷ period ∷ [])) _ _ (sym (at g.0 g.1)) g.2))),
       (λ q g. i.1 q (g.0, g.1, moved (Goes ed (closing_bracket ∷ period ∷ [])) _ _ (at g.0 g.1) g.2)),

@@ -10,7 +10,7 @@ use Rattle.go_ast.specs.Kinds.{same}
 use Rattle.go_ast.specs.Expected.{Expected, an_operand, a_value, a_type, a_declared_type, a_parameter_type, a_length, an_index, an_index_end, a_selected_name, a_function_name, a_function_opening, another}
 use Rattle.go_ast.specs.Trees.{TypeExpr, named, Simple, call_statement, conditional, no_else}
 use Rattle.go_ast.specs.Grammar.{Lexeme, name_of, closing, comma, is_call}
-use Rattle.go_ast.specs.Machine.{ListKind, fields, arguments, elements, const_specs, var_specs, type_specs, import_specs, statements, parameters, results, State, ended, token, package_name, import_path, optional, type, optional_type, expr, optional_expr, suffixes, operators, more_names, more_exprs, list_start, list_end, lefts, else_part, clause_start, clause_end, import_end, decl_end, Take, Fail, cond, keyword, behind_name, names_if, literal_type, behind_left, step, newer, operands}
+use Rattle.go_ast.specs.Machine.{ListKind, fields, arguments, elements, const_specs, var_specs, type_specs, import_specs, statements, parameters, results, Reader, ended, token, package_name, import_path, optional, type, optional_type, expr, optional_expr, suffixes, operators, more_names, more_exprs, list_start, list_end, lefts, else_part, clause_start, clause_end, import_end, decl_end, Take, Fail, cond, keyword, behind_name, names_if, literal_type, behind_left, parser_step, newer, operands}
 use Rattle.go_ast.proofs.Same.{are_same}
 use Rattle.go_ast.proofs.Base.{false_true, right_true}
 use Rattle.go_ast.proofs.LeftOutStates.{Last, other, name_last, names, passed, first_name, func_name, bracket, dot, equals, func, keyed, nameable, is_end, tok, GoesBy, Goes, starts, start_label, label, pick, MarkOk, TokenOk, OptionalOk, OptionalKind, TypeOk, OptionalTypeOk, ExprOk, Right, under, bounded}
@@ -35,7 +35,7 @@ named_next = kinds.Name ∷ comma ∷ []
 abbrev pub AreNames : Last → Type 0
 AreNames p = (p ≡ names) ⊎ (p ≡ name_last)
 
-abbrev pub Parameter : (ed : Edition) → Last → State → Type 0
+abbrev pub Parameter : (ed : Edition) → Last → Reader → Type 0
 Parameter ed p s = AreNames p × (starts ed s (keyword keywords.Struct) ≡ true) × Goes ed named_next s
 
 off : {A : Type 0} (x : Expected) → is_parameter x ≡ false → is_parameter x ≡ true → A
@@ -66,7 +66,7 @@ start_parameter (statements l) = refl
 start_parameter parameters = refl
 start_parameter results = refl
 
-type_to : (ed : Edition) → (l : ℕ) (p : Last) (x : Expected) (next : TypeExpr → State) → TypeOk ed p x next → is_parameter x ≡ true → Parameter ed p (type l x next)
+type_to : (ed : Edition) → (l : ℕ) (p : Last) (x : Expected) (next : TypeExpr → Reader) → TypeOk ed p x next → is_parameter x ≡ true → Parameter ed p (type l x next)
 type_to ed l other a_type next h q = absurd (false_true q)
 type_to ed l names a_type next h q = absurd (false_true q)
 type_to ed l names a_parameter_type next h q =
@@ -76,12 +76,12 @@ type_to ed l names a_parameter_type next h q =
 type_to ed l name_last a_declared_type next h q = absurd (false_true q)
 type_to ed l _ _ next h q = absurd h
 
-optional_type_to : (ed : Edition) → {A : Type 0} (p : Last) (x : Expected) (some : TypeExpr → State) (none : State) → OptionalTypeOk ed p x some none → Parameter ed p none → A
+optional_type_to : (ed : Edition) → {A : Type 0} (p : Last) (x : Expected) (some : TypeExpr → Reader) (none : Reader) → OptionalTypeOk ed p x some none → Parameter ed p none → A
 optional_type_to ed other a_type some none h i = no_names other refl i.0
 optional_type_to ed names a_type some none h i = absurd (false_true (sym h.3 ∙ i.1))
 optional_type_to ed _ _ some none h i = absurd h
 
-pub parameter_to : (ed : Edition) → (s : State) (p : Last) → Right ed s p → is_parameter (label s closing) ≡ true → Parameter ed p s
+pub parameter_to : (ed : Edition) → (s : Reader) (p : Last) → Right ed s p → is_parameter (label s closing) ≡ true → Parameter ed p s
 parameter_to ed (ended f) p r q = absurd (false_true q)
 parameter_to ed (token kind need x next) p r q = off x (token_off ed is_parameter refl refl refl refl refl x p kind next r.0) q
 parameter_to ed (package_name next) p r q = absurd (false_true q)
@@ -111,7 +111,7 @@ parameter_to ed (suffixes h l e next) p r q =
     let t : Lexeme = tok kinds.Name i.2.0 i.2.1 in (
       i.0,
       i.1,
-      (i.2.0, i.2.1, moved (Goes ed (comma ∷ [])) _ _ (sym (brace_step h l (λ a. suffixes h l a next) t (step ed (next e) t) (literal_type e) refl)) i.2.2),
+      (i.2.0, i.2.1, moved (Goes ed (comma ∷ [])) _ _ (sym (brace_step h l (λ a. suffixes h l a next) t (parser_step ed (next e) t) (literal_type e) refl)) i.2.2),
     )
 parameter_to ed (operators n h l e next) p r q = parameter_to ed (next e) p r.0 q
 parameter_to ed (more_names front next) p r q =
@@ -123,11 +123,11 @@ parameter_to ed (list_end s x front next) p r q = off x (list_off is_parameter r
 parameter_to ed (operands l next) p r q = absurd (false_true q)
 parameter_to ed (lefts m h l [] next alone range) p r q = absurd (false_true q)
 parameter_to ed (lefts m h l (e ∷ []) next alone range) p r q =
-    let behind : Simple → State = next in
+    let behind : Simple → Reader = next in
     let part = by_call
     (λ c. is_parameter (pick c (label (behind (call_statement e)) closing) (behind_left m e)) ≡ true →
     AreNames p × ((c && starts ed (behind (call_statement e)) (keyword keywords.Struct)) ≡ true) × ((text : List ℕ) × (place : Place)
-    × GoesBy (Goes ed (comma ∷ [])) (cond c (step ed (behind (call_statement e)) (tok kinds.Name text place)) (Fail (behind_left m e))))) (is_call e)
+    × GoesBy (Goes ed (comma ∷ [])) (cond c (parser_step ed (behind (call_statement e)) (tok kinds.Name text place)) (Fail (behind_left m e))))) (is_call e)
     (λ c d. parameter_to ed (next (call_statement e)) p (r.1 (call_statement e) p (call_end m e p r.0 c)) d)
     (λ c d. off (behind_left m e) (left_off ed is_parameter refl refl m e) d) q in
     let t : Lexeme = tok kinds.Name part.2.0 part.2.1 in
@@ -158,13 +158,13 @@ named_behind _ e = absurd (false_true e)
 not_behind : {A : Type 0} (p q : Last) → p ≡ q → is_behind q ≡ false → is_behind p ≡ true → A
 not_behind p q e f n = absurd (false_true (sym f ∙ sym (ap is_behind e) ∙ n))
 
-under_behind : (ed : Edition) → (k : TokenKind) (p : Last) (some : Lexeme → State) (none : State) → OptionalOk ed p k some none → is_behind p ≡ true → is_behind (under k p) ≡ true
+under_behind : (ed : Edition) → (k : TokenKind) (p : Last) (some : Lexeme → Reader) (none : Reader) → OptionalOk ed p k some none → is_behind p ≡ true → is_behind (under k p) ≡ true
 under_behind ed kinds.Name p some none h n = not_behind p other h.2.3 refl n
 under_behind ed (kinds.Punctuation marks.Colon) p some none h n = refl
 under_behind ed (kinds.Punctuation marks.CloseBracket) p some none h n = not_behind p other h.2.2 refl n
 under_behind ed _ p some none h n = n
 
-token_none : (ed : Edition) → {A : Type 0} (x : Expected) (p : Last) (kind : TokenKind) (need : ℕ) (next : Lexeme → State) → TokenOk ed p kind x next → is_behind p ≡ true →
+token_none : (ed : Edition) → {A : Type 0} (x : Expected) (p : Last) (kind : TokenKind) (need : ℕ) (next : Lexeme → Reader) → TokenOk ed p kind x next → is_behind p ≡ true →
     Goes ed named_next (token kind need x next) → A
 token_none ed {A} another p kind need next h n g = by_test (same kind kinds.Name) refl g.2
   where
@@ -179,7 +179,7 @@ token_none ed a_function_name p kind need next h n g = not_behind p func h.0 ref
 token_none ed a_function_opening p kind need next h n g = absurd (subst (λ k. Goes ed named_next (token k need a_function_opening next)) h.1 g).2
 token_none ed _ p kind need next h n g = absurd h
 
-optional_none : (ed : Edition) → (kind : TokenKind) (p : Last) (need : ℕ) (some : Lexeme → State) (none : State) → OptionalOk ed p kind some none → is_behind p ≡ true →
+optional_none : (ed : Edition) → (kind : TokenKind) (p : Last) (need : ℕ) (some : Lexeme → Reader) (none : Reader) → OptionalOk ed p kind some none → is_behind p ≡ true →
     Goes ed named_next (optional kind need some none) → Goes ed named_next none
 optional_none ed kind p need some none ok n g = by_test (same kind kinds.Name) refl
   where
@@ -189,14 +189,14 @@ optional_none ed kind p need some none ok n g = by_test (same kind kinds.Name) r
         let here : OptionalKind ed kinds.Name p some none = subst (λ x. OptionalKind ed x p some none) (sym (are_same kind kinds.Name e)) ok.2 in
         not_behind p other here.3 refl n
 
-no_comma : (ed : Edition) → {A : Type 0} (next : TypeExpr → State) (text : List ℕ) (place : Place) → ((a : TypeExpr) → starts ed (next a) comma ≡ false) →
+no_comma : (ed : Edition) → {A : Type 0} (next : TypeExpr → Reader) (text : List ℕ) (place : Place) → ((a : TypeExpr) → starts ed (next a) comma ≡ false) →
     Goes ed (comma ∷ []) (behind_name next (tok kinds.Name text place)) → A
 no_comma ed next text place quiet g =
     let t : Lexeme = tok kinds.Name text place in
     let a : TypeExpr = named t.place (name_of t) in
     absurd (false_true (sym (quiet a) ∙ goes_starts ed comma [] (next a) refl g))
 
-type_from : (ed : Edition) → (l : ℕ) (p : Last) (x : Expected) (next : TypeExpr → State) → TypeOk ed p x next → is_behind p ≡ true → Goes ed named_next (type l x next) →
+type_from : (ed : Edition) → (l : ℕ) (p : Last) (x : Expected) (next : TypeExpr → Reader) → TypeOk ed p x next → is_behind p ≡ true → Goes ed named_next (type l x next) →
     is_parameter x ≡ true
 type_from ed l other a_type next h n g = absurd (false_true n)
 type_from ed l names a_type next h n g = no_comma ed next g.0 g.1 h g.2
@@ -204,13 +204,13 @@ type_from ed l names a_parameter_type next h n g = refl
 type_from ed l name_last a_declared_type next h n g = no_comma ed next g.0 g.1 h g.2
 type_from ed l _ _ next h n g = absurd h
 
-optional_type_from : (ed : Edition) → {A : Type 0} (l : ℕ) (p : Last) (x : Expected) (some : TypeExpr → State) (none : State) → OptionalTypeOk ed p x some none → is_behind p ≡ true →
+optional_type_from : (ed : Edition) → {A : Type 0} (l : ℕ) (p : Last) (x : Expected) (some : TypeExpr → Reader) (none : Reader) → OptionalTypeOk ed p x some none → is_behind p ≡ true →
     Goes ed named_next (optional_type l x some none) → A
 optional_type_from ed l other a_type some none h n g = absurd (false_true n)
 optional_type_from ed l names a_type some none h n g = no_comma ed some g.0 g.1 h.0 g.2
 optional_type_from ed l _ _ some none h n g = absurd h
 
-expr_behind : (ed : Edition) → {A : Type 0} (p : Last) (x : Expected) (s : State) → ExprOk ed p x s → is_behind p ≡ true → A
+expr_behind : (ed : Edition) → {A : Type 0} (p : Last) (x : Expected) (s : Reader) → ExprOk ed p x s → is_behind p ≡ true → A
 expr_behind ed other an_operand s h n = absurd (false_true n)
 expr_behind ed equals a_value s h n = absurd (false_true n)
 expr_behind ed bracket a_length s h n = absurd (false_true n)
@@ -230,7 +230,7 @@ list_none ed (statements l) x front next g = absurd g.2
 list_none ed parameters x front next g = absurd g.2
 list_none ed results x front next g = absurd g.2
 
-pub parameter_from : (ed : Edition) → (s : State) (p : Last) → Right ed s p → is_behind p ≡ true → Goes ed named_next s → is_parameter (label s closing) ≡ true
+pub parameter_from : (ed : Edition) → (s : Reader) (p : Last) → Right ed s p → is_behind p ≡ true → Goes ed named_next s → is_parameter (label s closing) ≡ true
 parameter_from ed (ended f) p r n g = absurd g.2
 parameter_from ed (token kind need x next) p r n g = token_none ed x p kind need next r.0 n g
 parameter_from ed (package_name next) p r n g = not_behind p other r.0 refl n
@@ -247,7 +247,7 @@ parameter_from ed (optional_expr h l x some none) p r n g = not_behind p other r
 parameter_from ed (suffixes h l e next) p r n g =
     let t : Lexeme = tok kinds.Name g.0 g.1 in
     parameter_from ed (next e) p r.0 n
-    (g.0, g.1, moved (Goes ed (comma ∷ [])) _ _ (brace_step h l (λ a. suffixes h l a next) t (step ed (next e) t) (literal_type e) refl) g.2)
+    (g.0, g.1, moved (Goes ed (comma ∷ [])) _ _ (brace_step h l (λ a. suffixes h l a next) t (parser_step ed (next e) t) (literal_type e) refl) g.2)
 parameter_from ed (operators m h l e next) p r n g = parameter_from ed (next e) p r.0 n g
 parameter_from ed (more_names front next) p r n g = parameter_from ed (next front) names (r.1 front) refl g
 parameter_from ed (more_exprs h l front next) p r n g = parameter_from ed (next front) p (r.1 front p r.0) n g
@@ -256,10 +256,10 @@ parameter_from ed (list_end s x front next) p r n g = list_none ed s x front nex
 parameter_from ed (operands l next) p r n g = not_behind p other r.0 refl n
 parameter_from ed (lefts m h l [] next alone range) p r n g = absurd g.2
 parameter_from ed (lefts m h l (e ∷ []) next alone range) p r n g =
-    let behind : Simple → State = next in
+    let behind : Simple → Reader = next in
     let t : Lexeme = tok kinds.Name g.0 g.1 in
     by_call
-    (λ c. GoesBy (Goes ed (comma ∷ [])) (cond c (step ed (behind (call_statement e)) t) (Fail (behind_left m e))) →
+    (λ c. GoesBy (Goes ed (comma ∷ [])) (cond c (parser_step ed (behind (call_statement e)) t) (Fail (behind_left m e))) →
     is_parameter (pick c (label (behind (call_statement e)) closing) (behind_left m e)) ≡ true) (is_call e)
     (λ c i. parameter_from ed (next (call_statement e)) p (r.1 (call_statement e) p (call_end m e p r.0 c)) n (g.0, g.1, i))
     (λ c i. absurd i) (moved (Goes ed (comma ∷ [])) _ _ (left_step ed m h l e next alone range t refl) g.2)

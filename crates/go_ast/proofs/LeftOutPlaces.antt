@@ -9,7 +9,7 @@ use Rattle.go_ast.specs.Kinds.{same}
 use Rattle.go_ast.specs.Expected.{Expected, an_operand, a_value, a_type, a_declared_type, a_parameter_type, a_length, an_index, an_element_end, a_field_end, a_result_end, a_statement, behind_a_jump, another, is_left_out_at}
 use Rattle.go_ast.specs.Trees.{TypeExpr, call_statement, conditional, no_else}
 use Rattle.go_ast.specs.Grammar.{is_call}
-use Rattle.go_ast.specs.Machine.{ListKind, fields, arguments, elements, const_specs, var_specs, type_specs, import_specs, statements, parameters, results, separator, closer, State, ended, token, package_name, import_path, optional, type, optional_type, expr, optional_expr, suffixes, operators, more_names, more_exprs, list_start, list_end, lefts, else_part, clause_start, clause_end, import_end, decl_end, keyword, behind_left, newer, operands}
+use Rattle.go_ast.specs.Machine.{ListKind, fields, arguments, elements, const_specs, var_specs, type_specs, import_specs, statements, parameters, results, separator, closer, Reader, ended, token, package_name, import_path, optional, type, optional_type, expr, optional_expr, suffixes, operators, more_names, more_exprs, list_start, list_end, lefts, else_part, clause_start, clause_end, import_end, decl_end, keyword, behind_left, newer, operands}
 use Rattle.go_ast.proofs.Base.{false_true}
 use Rattle.go_ast.proofs.LeftOutStates.{Last, other, name_last, names, bracket, equals, starts, starts_item, pick, start_label, label, TypeOk, OptionalTypeOk, ExprOk, EndOk, Right, under, bounded}
 use Rattle.go_ast.proofs.LeftOutLed.{optional_not, newer_starts, newer_label}
@@ -35,19 +35,19 @@ pick_other false x y d = refl
 abbrev at_func : Expected → Bool
 at_func x = is_left_out_at x a_func
 
-type_pointers : (ed : Edition) → (p : Last) (x : Expected) (next : TypeExpr → State) → TypeOk ed p x next → is_left_out_at x a_func ≡ true
+type_pointers : (ed : Edition) → (p : Last) (x : Expected) (next : TypeExpr → Reader) → TypeOk ed p x next → is_left_out_at x a_func ≡ true
 type_pointers ed other a_type next h = refl
 type_pointers ed names a_type next h = refl
 type_pointers ed names a_parameter_type next h = refl
 type_pointers ed name_last a_declared_type next h = refl
 type_pointers ed _ _ next h = absurd h
 
-pub optional_type_is : (ed : Edition) → (p : Last) (x : Expected) (some : TypeExpr → State) (none : State) → OptionalTypeOk ed p x some none → x ≡ a_type
+pub optional_type_is : (ed : Edition) → (p : Last) (x : Expected) (some : TypeExpr → Reader) (none : Reader) → OptionalTypeOk ed p x some none → x ≡ a_type
 optional_type_is ed other a_type some none h = refl
 optional_type_is ed names a_type some none h = refl
 optional_type_is ed _ _ some none h = absurd h
 
-expr_pointers : (ed : Edition) → (p : Last) (x : Expected) (s : State) → ExprOk ed p x s → is_left_out_at x a_func ≡ true
+expr_pointers : (ed : Edition) → (p : Last) (x : Expected) (s : Reader) → ExprOk ed p x s → is_left_out_at x a_func ≡ true
 expr_pointers ed other an_operand s h = refl
 expr_pointers ed equals a_value s h = refl
 expr_pointers ed bracket a_length s h = refl
@@ -84,7 +84,7 @@ list_pointers parameters another p h = refl
 list_pointers _ _ p h = absurd h
 
 module _ (ed : Edition) (k : TokenKind) (like : (x : Expected) → is_left_out_at x k ≡ is_left_out_at x a_func) where
-  pub pointers : (s : State) (p : Last) → Right ed s p → is_left_out_at (label s k) k ≡ starts ed s a_struct
+  pub pointers : (s : Reader) (p : Last) → Right ed s p → is_left_out_at (label s k) k ≡ starts ed s a_struct
   pointers (ended f) p r = like another
   pointers (token kind need x next) p r =
       like x ∙ token_silent ed a_func x p kind next refl refl refl refl refl r.0 ∙ sym (token_starts ed a_struct x p kind next refl r.0)

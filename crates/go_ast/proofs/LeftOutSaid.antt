@@ -10,9 +10,9 @@ use Rattle.go_scan.specs.declared.punctuation.Punctuation.TheVariants as marks
 use Rattle.go_ast.specs.Kinds.{same}
 use Rattle.go_ast.specs.Operators.{unary_of, binary_of, assignment_of, tighter}
 use Rattle.go_ast.specs.Expected.{Expected, an_operand, a_type, a_statement, an_import, a_result_end, another, is_left_out_at}
-use Rattle.go_ast.specs.Trees.{Name, UnaryOperator, BinaryOperator, TypeExpr, Expr, Simple, call_statement, Stmt, conditional, no_else}
+use Rattle.go_ast.specs.Trees.{Name, UnaryOperator, BinaryOperator, TypeExpr, Expression, Simple, call_statement, Statement, conditional, no_else}
 use Rattle.go_ast.specs.Grammar.{Lexeme, assign, opening, opening_bracket, opening_brace, closing_brace, comma, period, semicolon, define, is_call, closing}
-use Rattle.go_ast.specs.Machine.{ListKind, fields, arguments, elements, const_specs, var_specs, type_specs, import_specs, statements, parameters, results, Item, separator, closer, Position, State, ended, token, package_name, import_path, optional, type, optional_type, expr, optional_expr, suffixes, operators, more_names, more_exprs, list_start, list_end, lefts, else_part, clause_start, clause_end, import_end, decl_end, Move, Take, Fail, cond, keyword, names_if, may_define, is_header, is_some, is_string, on_type, begins_type, on_unary, on_expr, begins_expr, on_brace, literal_type, on_operator, on_define, on_assignment, on_lefts, on_stmt, on_item, on_optional, behind_left, step, newer, operands, on_operand}
+use Rattle.go_ast.specs.Machine.{ListKind, fields, arguments, elements, const_specs, var_specs, type_specs, import_specs, statements, parameters, results, Item, separator, closer, Position, Reader, ended, token, package_name, import_path, optional, type, optional_type, expr, optional_expr, suffixes, operators, more_names, more_exprs, list_start, list_end, lefts, else_part, clause_start, clause_end, import_end, decl_end, Move, Take, Fail, cond, keyword, names_if, may_define, is_header, is_some, is_string_token, on_type, begins_type, on_unary, on_expr, begins_expr, on_brace, literal_type, on_operator, on_define, on_assignment, on_lefts, on_stmt, on_item, on_optional, behind_left, parser_step, newer, operands, on_operand}
 use Rattle.go_ast.proofs.Same.{are_same, is_same}
 use Rattle.go_ast.proofs.Base.{false_true, both_true, right_true, neither}
 use Rattle.go_ast.proofs.Tokens.{is_package, package_is, string_is}
@@ -36,11 +36,11 @@ says_or : (k : TokenKind) (c b : Bool) (y : Expected) (m n : Move) → (c ≡ tr
 says_or k true b y m n h i = h refl
 says_or k false b y m n h i = i
 
-says_take : (k : TokenKind) (c b : Bool) (y : Expected) (need : ℕ) (s : State) (n : Move) → Says k b y n → Says k (c || b) y (cond c (Take need s) n)
+says_take : (k : TokenKind) (c b : Bool) (y : Expected) (need : ℕ) (s : Reader) (n : Move) → Says k b y n → Says k (c || b) y (cond c (Take need s) n)
 says_take k true b y need s n i = refl
 says_take k false b y need s n i = i
 
-says_sure : (k : TokenKind) (c d b : Bool) (y : Expected) (need : ℕ) (s : State) (n : Move) → (d ≡ true → c ≡ true) → (is_sure k ≡ true → c ≡ d) →
+says_sure : (k : TokenKind) (c d b : Bool) (y : Expected) (need : ℕ) (s : Reader) (n : Move) → (d ≡ true → c ≡ true) → (is_sure k ≡ true → c ≡ d) →
     Says k b y n → Says k (c || b) y (cond d (Take need s) n)
 says_sure k true true b y need s n f g i = refl
 says_sure k false true b y need s n f g i = absurd (false_true (f refl))
@@ -48,22 +48,22 @@ says_sure k false false b y need s n f g i = i
 says_sure k true false b y need s (Take m q) f g i = refl
 says_sure k true false b y need s (Fail x) f g i = (i.0, λ sure. absurd (false_true (sym (g sure))))
 
-says_unary : (k j : TokenKind) (y : Expected) (n : ℕ) (h : Bool) (l : ℕ) (next : Expr → State) (t : Lexeme) (o : Option UnaryOperator) →
+says_unary : (k j : TokenKind) (y : Expected) (n : ℕ) (h : Bool) (l : ℕ) (next : Expression → Reader) (t : Lexeme) (o : Option UnaryOperator) →
     Says k (is_some o) y (on_unary n h l next t (Fail y) o)
 says_unary k j y n h l next t None = (refl, λ sure. refl)
 says_unary k j y n h l next t (Some op) = refl
 
-pub said_type : (k : TokenKind) (l : ℕ) (x : Expected) (next : TypeExpr → State) (t : Lexeme) → Says k (starts_type t.kind) x (on_type l x next t)
+pub said_type : (k : TokenKind) (l : ℕ) (x : Expected) (next : TypeExpr → Reader) (t : Lexeme) → Says k (starts_type t.kind) x (on_type l x next t)
 said_type k l x next t =
     says_take k (same kinds.Name t.kind) _ x _ _ _
     (says_take k (same opening_bracket t.kind) _ x _ _ _
     (says_tail (same (keyword keywords.Struct) t.kind) x _ _))
   where
-    says_tail : (c : Bool) (y : Expected) (need : ℕ) (s : State) → Says k c y (cond c (Take need s) (Fail y))
+    says_tail : (c : Bool) (y : Expected) (need : ℕ) (s : Reader) → Says k c y (cond c (Take need s) (Fail y))
     says_tail true y need s = refl
     says_tail false y need s = (refl, λ sure. refl)
 
-pub said_expr : (k : TokenKind) (n : ℕ) (h : Bool) (l : ℕ) (x : Expected) (next : Expr → State) (t : Lexeme) → Says k (starts_expr t.kind) x (on_expr n h l x next t)
+pub said_expr : (k : TokenKind) (n : ℕ) (h : Bool) (l : ℕ) (x : Expected) (next : Expression → Reader) (t : Lexeme) → Says k (starts_expr t.kind) x (on_expr n h l x next t)
 said_expr k n h l x next t =
     says_take k (same kinds.Name t.kind) _ x _ _ _
     (says_take k (same kinds.Integer t.kind) _ x _ _ _
@@ -77,7 +77,7 @@ said_expr k n h l x next t =
 says_nothing : (k : TokenKind) (y : Expected) → Says k false y (Fail y)
 says_nothing k y = (refl, λ sure. refl)
 
-pub said_stmt : (l : ℕ) (next : Expected → Stmt → State) (t : Lexeme) → Says t.kind (starts_stmt t.kind) a_statement (on_stmt l next t)
+pub said_stmt : (l : ℕ) (next : Expected → Statement → Reader) (t : Lexeme) → Says t.kind (starts_stmt t.kind) a_statement (on_stmt l next t)
 said_stmt l next t =
     says_take t.kind (same (keyword keywords.Const) t.kind) _ a_statement _ _ _
     (says_take t.kind (same (keyword keywords.Var) t.kind) _ a_statement _ _ _
@@ -92,7 +92,7 @@ said_stmt l next t =
     (said_expr t.kind 5 false (l + 1) a_statement _ t))))))))))
 
 -- the path of an import
-string_sure : (t : Lexeme) → is_string (codes "C") t ≡ true → same kinds.String t.kind ≡ true
+string_sure : (t : Lexeme) → is_string_token (codes "C") t ≡ true → same kinds.String t.kind ≡ true
 string_sure t e = is_same kinds.String t.kind (string_is t e).0
 
 kind_unsure : (k j : TokenKind) → same j k ≡ true → is_sure j ≡ false → is_sure k ≡ true → false ≡ true
@@ -103,13 +103,13 @@ agrees true d f g = absurd (false_true (g refl))
 agrees false true f g = f refl
 agrees false false f g = refl
 
-says_string : (t : Lexeme) (y : Expected) (need : ℕ) (s : State) → Says t.kind (same kinds.String t.kind || false) y (cond (is_string (codes "C") t) (Take need s) (Fail y))
+says_string : (t : Lexeme) (y : Expected) (need : ℕ) (s : Reader) → Says t.kind (same kinds.String t.kind || false) y (cond (is_string_token (codes "C") t) (Take need s) (Fail y))
 says_string t y need s =
-    says_sure t.kind (same kinds.String t.kind) (is_string (codes "C") t) false y need s (Fail y) (string_sure t)
-    (λ sure. agrees (same kinds.String t.kind) (is_string (codes "C") t) (string_sure t) (λ e. kind_unsure t.kind kinds.String e refl sure))
+    says_sure t.kind (same kinds.String t.kind) (is_string_token (codes "C") t) false y need s (Fail y) (string_sure t)
+    (λ sure. agrees (same kinds.String t.kind) (is_string_token (codes "C") t) (string_sure t) (λ e. kind_unsure t.kind kinds.String e refl sure))
     (says_nothing t.kind y)
 
-said_item : (k : ListKind) (front : List (Item k)) (next : List (Item k) → Lexeme → State) (t : Lexeme) →
+said_item : (k : ListKind) (front : List (Item k)) (next : List (Item k) → Lexeme → Reader) (t : Lexeme) →
     Says t.kind (starts_item k t.kind) (start_label k) (on_item k front next t)
 said_item (fields l) front next t = says_take t.kind (same kinds.Name t.kind) false another _ _ _ (says_nothing t.kind another)
 said_item (arguments l) front next t = said_expr t.kind 5 false l an_operand _ t
@@ -124,18 +124,18 @@ said_item parameters front next t = says_take t.kind (same kinds.Name t.kind) fa
 said_item results front next t = said_type t.kind 1 a_type (λ a. list_end results a_result_end (front ++ a ∷ []) next) t
 
 -- a token that came with slices
-says_newer : (k : TokenKind) (c e b : Bool) (x y : Expected) (need : ℕ) (s : State) (n : Move) → Says k b y n →
+says_newer : (k : TokenKind) (c e b : Bool) (x y : Expected) (need : ℕ) (s : Reader) (n : Move) → Says k b y n →
     Says k (by_newer c e b) (pick c x y) (cond c (cond e (Take need s) (Fail x)) n)
 says_newer k true true b x y need s n i = refl
 says_newer k true false b x y need s n i = (refl, λ sure. refl)
 says_newer k false e b x y need s n i = i
 
 -- a call's first operand
-says_in : (k : TokenKind) (c b : Bool) (y : Expected) (need : ℕ) (s : State) (n : Move) → (c ≡ true → b ≡ true) → Says k b y n → Says k b y (cond c (Take need s) n)
+says_in : (k : TokenKind) (c b : Bool) (y : Expected) (need : ℕ) (s : Reader) (n : Move) → (c ≡ true → b ≡ true) → Says k b y n → Says k b y (cond c (Take need s) n)
 says_in k true b y need s n f i = f refl
 says_in k false b y need s n f i = i
 
-said_operand : (k : TokenKind) (c : Bool) (l : ℕ) (next : Expr → State) (t : Lexeme) → Says k (starts_expr t.kind) an_operand (on_operand c l next t)
+said_operand : (k : TokenKind) (c : Bool) (l : ℕ) (next : Expression → Reader) (t : Lexeme) → Says k (starts_expr t.kind) an_operand (on_operand c l next t)
 said_operand k false l next t = said_expr k 5 false l an_operand next t
 said_operand k true l next t =
     says_in k (same opening_bracket t.kind) (starts_expr t.kind) an_operand _ _ _ (λ e. ap starts_expr (are_same opening_bracket t.kind e))
@@ -167,7 +167,7 @@ or_eight false false false false false false true h = refl
 or_eight false false false false false false false h = refl
 
 -- suffixes, operators and left sides
-says_brace : (k : TokenKind) (b h : Bool) (l : ℕ) (behind : Expr → State) (t : Lexeme) (y : Expected) (m : Move) (o : Option TypeExpr) →
+says_brace : (k : TokenKind) (b h : Bool) (l : ℕ) (behind : Expression → Reader) (t : Lexeme) (y : Expected) (m : Move) (o : Option TypeExpr) →
     same opening_brace t.kind ≡ false → Says k b y m → Says k b y (on_brace h l behind t m o)
 says_brace k b true l behind t y m o e i = i
 says_brace k b false l behind t y m None e i = i
@@ -177,7 +177,7 @@ says_brace k b false l behind t y m (Some a) e i = by_test (same opening_brace t
     by_test true d n j = absurd (false_true (sym d))
     by_test false d n j = j
 
-says_operator : (k : TokenKind) (b : Bool) (n : ℕ) (h : Bool) (l : ℕ) (e : Expr) (behind : Expr → State) (y : Expected) (m : Move) (o : Option BinaryOperator) →
+says_operator : (k : TokenKind) (b : Bool) (n : ℕ) (h : Bool) (l : ℕ) (e : Expression) (behind : Expression → Reader) (y : Expected) (m : Move) (o : Option BinaryOperator) →
     Says k b y m → Says k (is_level n o || b) y (on_operator n h l e behind m o)
 says_operator k b n h l e behind y m None i = i
 says_operator k b n h l e behind y m (Some op) i = says_take k (nat_eq (tighter op) n) b y _ _ m i
@@ -193,7 +193,7 @@ define_unsure k sure = by_test (same define k) refl
     by_test false e = refl
     by_test true e = sym (kind_unsure k define e refl sure)
 
-says_define : (b : Bool) (y : Expected) (m : Position) (h : Bool) (l : ℕ) (next : Simple → State) (range : Name → Expr → State) (t : Lexeme) (x : Move)
+says_define : (b : Bool) (y : Expected) (m : Position) (h : Bool) (l : ℕ) (next : Simple → Reader) (range : Name → Expression → Reader) (t : Lexeme) (x : Move)
     (o : Option (List Name)) → Says t.kind b y x → Says t.kind (same define t.kind || b) y (on_define m h l next range t x o)
 says_define b y m h l next range t x None i = says_unsure t.kind (same define t.kind) b y x (define_unsure t.kind) i
 says_define b y m h l next range t x (Some ns) i =
@@ -201,14 +201,14 @@ says_define b y m h l next range t x (Some ns) i =
     (λ sure. agrees (same define t.kind) (same define t.kind && may_define m) (λ e. (both_true (same define t.kind) (may_define m) e).0)
     (λ e. kind_unsure t.kind define e refl sure)) i
 
-says_lefts : (b : Bool) (y : Expected) (m : Position) (h : Bool) (l : ℕ) (front : List Expr) (next : Simple → State) (alone : Expr → State)
-    (range : Name → Expr → State) (t : Lexeme) (x : Move) → Says t.kind b y x → Says t.kind (goes_left t.kind b) y (on_lefts m h l front next alone range t x)
+says_lefts : (b : Bool) (y : Expected) (m : Position) (h : Bool) (l : ℕ) (front : List Expression) (next : Simple → Reader) (alone : Expression → Reader)
+    (range : Name → Expression → Reader) (t : Lexeme) (x : Move) → Says t.kind b y x → Says t.kind (goes_left t.kind b) y (on_lefts m h l front next alone range t x)
 says_lefts b y m h l front next alone range t x i =
     says_take t.kind (same comma t.kind) _ y _ _ _
     (says_take t.kind (same assign t.kind) _ y _ _ _
     (says_define b y m h l next range t x (names_if front) i))
 
-says_assignment : (k : TokenKind) (b : Bool) (y : Expected) (h : Bool) (l : ℕ) (e : Expr) (next : Simple → State) (x : Move) (o : Option BinaryOperator) →
+says_assignment : (k : TokenKind) (b : Bool) (y : Expected) (h : Bool) (l : ℕ) (e : Expression) (next : Simple → Reader) (x : Move) (o : Option BinaryOperator) →
     Says k b y x → Says k (is_some o || b) y (on_assignment h l e next x o)
 says_assignment k b y h l e next x None i = i
 says_assignment k b y h l e next x (Some op) i = refl
@@ -222,7 +222,7 @@ and_false : (a b : Bool) → b ≡ false → (a && b) ≡ false
 and_false true b e = e
 and_false false b e = refl
 
-pub said : (ed : Edition) → (s : State) (t : Lexeme) → same opening_brace t.kind ≡ false → Says t.kind (starts ed s t.kind) (label s t.kind) (step ed s t)
+pub said : (ed : Edition) → (s : Reader) (t : Lexeme) → same opening_brace t.kind ≡ false → Says t.kind (starts ed s t.kind) (label s t.kind) (parser_step ed s t)
 said ed (ended f) t ne = (refl, λ sure. refl)
 said ed (token kind need x next) t ne = says_take t.kind (same kind t.kind) false x _ _ _ (says_nothing t.kind x)
 said ed (package_name next) t ne =
@@ -232,7 +232,7 @@ said ed (package_name next) t ne =
 said ed (import_path x next) t ne = says_string t x _ _
 said ed (optional kind need some none) t ne = says_take t.kind (same kind t.kind) (starts ed none t.kind) (label none t.kind) _ _ _ (said ed none t ne)
 said ed (newer kind need x some none) t ne =
-    says_newer t.kind (same kind t.kind) (has_slices ed) (starts ed none t.kind) x (label none t.kind) need (some t) (step ed none t) (said ed none t ne)
+    says_newer t.kind (same kind t.kind) (has_slices ed) (starts ed none t.kind) x (label none t.kind) need (some t) (parser_step ed none t) (said ed none t ne)
 said ed (type l x next) t ne = said_type t.kind l x next t
 said ed (optional_type l x some none) t ne =
     says_optional t.kind (is_left_out_at x t.kind) (starts_type t.kind) (starts ed none t.kind) x (label none t.kind) (begins_type t.kind) _ _
@@ -247,9 +247,9 @@ said ed (suffixes h l e next) t ne =
     says_take t.kind (same period t.kind) _ (label (next e) t.kind) _ _ _
     (says_take t.kind (same opening_bracket t.kind) _ (label (next e) t.kind) _ _ _
     (says_take t.kind (same opening t.kind) _ (label (next e) t.kind) _ _ _
-    (says_brace t.kind (starts ed (next e) t.kind) h l (λ a. suffixes h l a next) t (label (next e) t.kind) (step ed (next e) t) (literal_type e) ne (said ed (next e) t ne))))
+    (says_brace t.kind (starts ed (next e) t.kind) h l (λ a. suffixes h l a next) t (label (next e) t.kind) (parser_step ed (next e) t) (literal_type e) ne (said ed (next e) t ne))))
 said ed (operators n h l e next) t ne =
-    says_operator t.kind (starts ed (next e) t.kind) n h l e (λ a. operators n h l a next) (label (next e) t.kind) (step ed (next e) t) (binary_of t.kind)
+    says_operator t.kind (starts ed (next e) t.kind) n h l e (λ a. operators n h l a next) (label (next e) t.kind) (parser_step ed (next e) t) (binary_of t.kind)
     (said ed (next e) t ne)
 said ed (more_names front next) t ne = says_take t.kind (same comma t.kind) _ (label (next front) t.kind) _ _ _ (said ed (next front) t ne)
 said ed (more_exprs h l front next) t ne = says_take t.kind (same comma t.kind) _ (label (next front) t.kind) _ _ _ (said ed (next front) t ne)
@@ -267,7 +267,7 @@ said ed (lefts m h l (e ∷ []) next alone range) t ne =
     (says_take t.kind (same (kinds.Punctuation marks.Decrement) t.kind) _ y _ _ _
     (says_assignment t.kind _ y h l e next _ (assignment_of t.kind)
     (says_call t.kind (is_call e) (starts ed (next (call_statement e)) t.kind) (is_header m && same opening_brace t.kind)
-    (label (next (call_statement e)) t.kind) (behind_left m e) (step ed (alone e) t) (step ed (next (call_statement e)) t)
+    (label (next (call_statement e)) t.kind) (behind_left m e) (parser_step ed (alone e) t) (parser_step ed (next (call_statement e)) t)
     (and_false (is_header m) (same opening_brace t.kind) ne) (said ed (next (call_statement e)) t ne)))))
 said ed (lefts m h l (e ∷ f ∷ es) next alone range) t ne =
     says_lefts false another m h l (e ∷ f ∷ es) next alone range t (Fail another) (says_nothing t.kind another)

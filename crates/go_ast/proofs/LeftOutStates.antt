@@ -11,9 +11,9 @@ use Rattle.go_scan.specs.declared.punctuation.Punctuation.TheVariants as marks
 use Rattle.go_ast.specs.Kinds.{same}
 use Rattle.go_ast.specs.Operators.{unary_of, binary_of, assignment_of}
 use Rattle.go_ast.specs.Expected.{Expected, an_operand, a_value, a_type, a_declared_type, a_parameter_type, a_length, an_index, an_index_end, a_selected_name, an_element_end, a_field_end, a_result_end, a_statement, behind_a_jump, a_function_name, a_function_opening, an_import, an_import_path, another, is_left_out_at}
-use Rattle.go_ast.specs.Trees.{Name, TypeExpr, Expr, name, Simple, call_statement, conditional, no_else, If, Clauses}
+use Rattle.go_ast.specs.Trees.{Name, TypeExpr, Expression, name, Simple, call_statement, conditional, no_else, If, Cases}
 use Rattle.go_ast.specs.Grammar.{Lexeme, assign, opening, closing, opening_bracket, closing_bracket, opening_brace, closing_brace, comma, period, semicolon, colon, define, is_call}
-use Rattle.go_ast.specs.Machine.{ListKind, fields, arguments, elements, const_specs, var_specs, type_specs, import_specs, statements, parameters, results, Item, separator, closer, Position, in_list, State, ended, token, package_name, import_path, optional, newer, type, optional_type, expr, optional_expr, suffixes, operators, more_names, more_exprs, list_start, list_end, operands, lefts, else_part, clause_start, clause_end, import_end, decl_end, Move, Take, Fail, keyword, is_header, is_some, behind_left, step}
+use Rattle.go_ast.specs.Machine.{ListKind, fields, arguments, elements, const_specs, var_specs, type_specs, import_specs, statements, parameters, results, Item, separator, closer, Position, in_list, Reader, ended, token, package_name, import_path, optional, newer, type, optional_type, expr, optional_expr, suffixes, operators, more_names, more_exprs, list_start, list_end, operands, lefts, else_part, clause_start, clause_end, import_end, decl_end, Move, Take, Fail, keyword, is_header, is_some, behind_left, parser_step}
 use Rattle.go_ast.proofs.Positions.{is_for}
 use Rattle.go_ast.proofs.Means.{is_level}
 
@@ -130,11 +130,11 @@ under (kinds.Punctuation marks.CloseBracket) p = bounded
 under _ p = p
 
 -- a name and no more
-abbrev pub is_lone : Expr → Bool
+abbrev pub is_lone : Expression → Bool
 is_lone (name p text) = true
 is_lone _ = false
 
-abbrev pub is_alone : Position → List Expr → Bool
+abbrev pub is_alone : Position → List Expression → Bool
 is_alone in_list (name p text ∷ []) = true
 is_alone _ _ = false
 
@@ -143,13 +143,13 @@ abbrev pub tok : TokenKind → List ℕ → Place → Lexeme
 tok k text place = record { kind = k; text = text; place = place }
 
 -- the state takes tokens of these kinds, one after another, however deep
-abbrev pub GoesBy : (State → Type 0) → Move → Type 0
+abbrev pub GoesBy : (Reader → Type 0) → Move → Type 0
 GoesBy P (Take need q) = P q
 GoesBy P (Fail x) = ⊥
 
-abbrev pub Goes : (ed : Edition) → List TokenKind → State → Type 0
+abbrev pub Goes : (ed : Edition) → List TokenKind → Reader → Type 0
 Goes ed [] s = Unit {0}
-Goes ed (k ∷ ks) s = (text : List ℕ) × (place : Place) × GoesBy (Goes ed ks) (step ed s (tok k text place))
+Goes ed (k ∷ ks) s = (text : List ℕ) × (place : Place) × GoesBy (Goes ed ks) (parser_step ed s (tok k text place))
 
 -- which kinds a state may begin with, other than an opening brace
 abbrev pub starts_type : TokenKind → Bool
@@ -191,7 +191,7 @@ abbrev pub by_newer : Bool → Bool → Bool → Bool
 by_newer true e b = e
 by_newer false e b = b
 
-abbrev pub starts : (ed : Edition) → State → TokenKind → Bool
+abbrev pub starts : (ed : Edition) → Reader → TokenKind → Bool
 starts ed (ended f) k = false
 starts ed (token kind need x next) k = same kind k || false
 starts ed (package_name next) k = same kinds.Name k || false
@@ -238,7 +238,7 @@ start_label (statements l) = a_statement
 start_label parameters = another
 start_label results = a_type
 
-abbrev pub label : State → TokenKind → Expected
+abbrev pub label : Reader → TokenKind → Expected
 label (token kind need x next) k = x
 label (import_path x next) k = x
 label (optional kind need some none) k = label none k
@@ -263,12 +263,12 @@ label _ k = another
 -- the labels of parts
 
 -- what holds of a token that is due, by its kind: no period may come behind a bracket; no name was last in front of a name
-abbrev pub MarkOk : (ed : Edition) → Last → TokenKind → (Lexeme → State) → Type 0
+abbrev pub MarkOk : (ed : Edition) → Last → TokenKind → (Lexeme → Reader) → Type 0
 MarkOk ed p (kinds.Punctuation marks.CloseBracket) next = (t : Lexeme) → starts ed (next t) period ≡ false
 MarkOk ed p kinds.Name next = p ≡ other
 MarkOk ed p _ next = Unit {0}
 
-abbrev pub TokenOk : (ed : Edition) → Last → TokenKind → Expected → (Lexeme → State) → Type 0
+abbrev pub TokenOk : (ed : Edition) → Last → TokenKind → Expected → (Lexeme → Reader) → Type 0
 TokenOk ed p kind another next = (is_plain p ≡ true) × (is_mark kind ≡ true) × MarkOk ed p kind next
 TokenOk ed p kind an_index_end next = (is_end p ≡ true) × (kind ≡ closing_bracket) × ((t : Lexeme) → starts ed (next t) period ≡ true)
 TokenOk ed p kind a_selected_name next = (p ≡ dot) × (kind ≡ kinds.Name)
@@ -281,7 +281,7 @@ ImportOk nameable an_import = Unit {0}
 ImportOk name_last an_import_path = Unit {0}
 ImportOk _ _ = ⊥
 
-abbrev pub OptionalKind : (ed : Edition) → TokenKind → Last → (Lexeme → State) → State → Type 0
+abbrev pub OptionalKind : (ed : Edition) → TokenKind → Last → (Lexeme → Reader) → Reader → Type 0
 OptionalKind ed kinds.Name p some none =
     (starts ed none kinds.String ≡ true) × (starts ed none kinds.Integer ≡ false) × (starts ed none (keyword keywords.Return) ≡ false) × (p ≡ other)
 OptionalKind ed (kinds.Punctuation marks.Comma) p some none =
@@ -290,20 +290,20 @@ OptionalKind ed (kinds.Punctuation marks.Semicolon) p some none = starts ed none
 OptionalKind ed (kinds.Punctuation marks.CloseBracket) p some none = ((t : Lexeme) → starts ed (some t) period ≡ true) × (label none colon ≡ an_index) × (p ≡ other)
 OptionalKind ed _ p some none = Unit {0}
 
-abbrev pub OptionalOk : (ed : Edition) → Last → TokenKind → (Lexeme → State) → State → Type 0
+abbrev pub OptionalOk : (ed : Edition) → Last → TokenKind → (Lexeme → Reader) → Reader → Type 0
 OptionalOk ed p kind some none = (is_end p ≡ true) × (is_optional kind ≡ true) × OptionalKind ed kind p some none
 
-abbrev pub CommaIs : (ed : Edition) → Bool → (TypeExpr → State) → Type 0
+abbrev pub CommaIs : (ed : Edition) → Bool → (TypeExpr → Reader) → Type 0
 CommaIs ed b next = (a : TypeExpr) → starts ed (next a) comma ≡ b
 
-abbrev pub TypeOk : (ed : Edition) → Last → Expected → (TypeExpr → State) → Type 0
+abbrev pub TypeOk : (ed : Edition) → Last → Expected → (TypeExpr → Reader) → Type 0
 TypeOk ed other a_type next = Unit {0}
 TypeOk ed names a_type next = CommaIs ed false next
 TypeOk ed names a_parameter_type next = CommaIs ed true next
 TypeOk ed name_last a_declared_type next = CommaIs ed false next
 TypeOk ed _ _ _ = ⊥
 
-abbrev pub OptionalTypeOk : (ed : Edition) → Last → Expected → (TypeExpr → State) → State → Type 0
+abbrev pub OptionalTypeOk : (ed : Edition) → Last → Expected → (TypeExpr → Reader) → Reader → Type 0
 OptionalTypeOk ed other a_type some none = starts ed none (keyword keywords.Return) ≡ false
 OptionalTypeOk ed names a_type some none =
     CommaIs ed false some × (starts ed none assign ≡ true) × (starts ed none (keyword keywords.Return) ≡ false) × (starts ed none (keyword keywords.Struct) ≡ false)
@@ -313,7 +313,7 @@ OptionalTypeOk ed _ _ _ _ = ⊥
 abbrev pub index_tail : List TokenKind
 index_tail = kinds.Integer ∷ closing_bracket ∷ period ∷ []
 
-abbrev pub ExprOk : (ed : Edition) → Last → Expected → State → Type 0
+abbrev pub ExprOk : (ed : Edition) → Last → Expected → Reader → Type 0
 ExprOk ed other an_operand s = Unit {0}
 ExprOk ed equals a_value s = Unit {0}
 ExprOk ed bracket a_length s = Goes ed index_tail s → ⊥
@@ -322,7 +322,7 @@ ExprOk ed bounded an_index s = Unit {0}
 ExprOk ed _ _ _ = ⊥
 
 -- a token that came with slices, in its three places; what is expected otherwise is refused alike, and no comma comes there
-abbrev pub NewerOk : (ed : Edition) → Last → TokenKind → Expected → (Lexeme → State) → Type 0
+abbrev pub NewerOk : (ed : Edition) → Last → TokenKind → Expected → (Lexeme → Reader) → Type 0
 NewerOk ed p kind a_length some = (p ≡ bracket) × (kind ≡ closing_bracket) × ((t : Lexeme) → starts ed (some t) period ≡ false)
 NewerOk ed p kind an_index some = (p ≡ bracket) × (kind ≡ colon)
 NewerOk ed p kind an_index_end some = (is_end p ≡ true) × (kind ≡ colon)
@@ -353,7 +353,7 @@ ClauseOk another p = is_end p ≡ true
 ClauseOk _ _ = ⊥
 
 -- the labels in a state, and in all that may come behind it, are right
-abbrev pub Right : (ed : Edition) → State → Last → Type 0
+abbrev pub Right : (ed : Edition) → Reader → Last → Type 0
 Right ed (ended f) p = is_end p ≡ true
 Right ed (token kind need x next) p = TokenOk ed p kind x next × ((t : Lexeme) → Right ed (next t) (after kind x))
 Right ed (package_name next) p = (p ≡ other) × ((t : Lexeme) → Right ed (next t) name_last)
@@ -364,27 +364,27 @@ Right ed (newer kind need x some none) p =
     NewerOk ed p kind x some × ((t : Lexeme) → Right ed (some t) other) × Right ed none p × ((k : TokenKind) → label none k ≡ x) × (starts ed none comma ≡ false)
 Right ed (type l x next) p = TypeOk ed p x next × ((a : TypeExpr) (q : Last) → is_end q ≡ true → Right ed (next a) q)
 Right ed (optional_type l x some none) p = OptionalTypeOk ed p x some none × ((a : TypeExpr) (q : Last) → is_end q ≡ true → Right ed (some a) q) × Right ed none p
-Right ed (expr n h l x next) p = ExprOk ed p x (expr n h l x next) × ((e : Expr) (q : Last) → is_end q ≡ true → Right ed (next e) q)
+Right ed (expr n h l x next) p = ExprOk ed p x (expr n h l x next) × ((e : Expression) (q : Last) → is_end q ≡ true → Right ed (next e) q)
 Right ed (optional_expr h l x some none) p =
-    (p ≡ other) × (x ≡ an_operand) × (starts ed none (keyword keywords.Return) ≡ false) × ((e : Expr) (q : Last) → is_end q ≡ true → Right ed (some e) q) × Right ed none p
+    (p ≡ other) × (x ≡ an_operand) × (starts ed none (keyword keywords.Return) ≡ false) × ((e : Expression) (q : Last) → is_end q ≡ true → Right ed (some e) q) × Right ed none p
     × (starts ed none kinds.String ≡ false)
-Right ed (suffixes h l e next) p = Right ed (next e) p × ((a : Expr) (q : Last) → is_end q ≡ true → is_lone a ≡ false → Right ed (next a) q)
-Right ed (operators n h l e next) p = Right ed (next e) p × ((a : Expr) (q : Last) → is_end q ≡ true → is_lone a ≡ false → Right ed (next a) q)
+Right ed (suffixes h l e next) p = Right ed (next e) p × ((a : Expression) (q : Last) → is_end q ≡ true → is_lone a ≡ false → Right ed (next a) q)
+Right ed (operators n h l e next) p = Right ed (next e) p × ((a : Expression) (q : Last) → is_end q ≡ true → is_lone a ≡ false → Right ed (next a) q)
 Right ed (more_names front next) p =
     (p ≡ name_last) × ((ns : List Name) → Right ed (next ns) names) × ((ns : List Name) → starts ed (next ns) comma ≡ false)
 Right ed (more_exprs h l front next) p =
-    (is_end p ≡ true) × ((es : List Expr) (q : Last) → is_end q ≡ true → Right ed (next es) q) × ((es : List Expr) → starts ed (next es) comma ≡ false)
+    (is_end p ≡ true) × ((es : List Expression) (q : Last) → is_end q ≡ true → Right ed (next es) q) × ((es : List Expression) → starts ed (next es) comma ≡ false)
 Right ed (list_start k front next) p = (p ≡ other) × ((is : List (Item k)) (c : Lexeme) → Right ed (next is c) other)
 Right ed (list_end k x front next) p = EndOk k x p × ((is : List (Item k)) (c : Lexeme) → Right ed (next is c) other)
-Right ed (operands l next) p = (p ≡ other) × ((es : List Expr) (c : Lexeme) → Right ed (next es c) other)
+Right ed (operands l next) p = (p ≡ other) × ((es : List Expression) (c : Lexeme) → Right ed (next es c) other)
 Right ed (lefts m h l front next alone range) p =
     LeftsOk (is_alone m front) p × ((s : Simple) (q : Last) → is_end q ≡ true → Right ed (next s) q)
-    × (is_header m ≡ true → (e : Expr) (q : Last) → is_end q ≡ true → Right ed (alone e) q)
-    × (is_for m ≡ true → (n : Name) (e : Expr) (q : Last) → is_end q ≡ true → Right ed (range n e) q)
+    × (is_header m ≡ true → (e : Expression) (q : Last) → is_end q ≡ true → Right ed (alone e) q)
+    × (is_for m ≡ true → (n : Name) (e : Expression) (q : Last) → is_end q ≡ true → Right ed (range n e) q)
     × ((s : Simple) → starts ed (next s) comma ≡ false)
 Right ed (else_part l p i c b next) q = (q ≡ other) × ((x : If) → Right ed (next x) other)
-Right ed (clause_start l done p values front next) q = (q ≡ other) × ((cs : Clauses) (c : Lexeme) → Right ed (next cs c) other)
-Right ed (clause_end l x done p values front next) q = ClauseOk x q × ((cs : Clauses) (c : Lexeme) → Right ed (next cs c) other)
+Right ed (clause_start l done p values front next) q = (q ≡ other) × ((cs : Cases) (c : Lexeme) → Right ed (next cs c) other)
+Right ed (clause_end l x done p values front next) q = ClauseOk x q × ((cs : Cases) (c : Lexeme) → Right ed (next cs c) other)
 Right ed (import_end p iss) q = is_end q ≡ true
 Right ed (decl_end p is ds) q = is_end q ≡ true
 

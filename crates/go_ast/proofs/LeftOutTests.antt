@@ -3,9 +3,9 @@ use Rattle.std.proofs.Common.{◌≡◌, ℕ, Bool, false, ◌∙◌, ap}
 use Rattle.go_text.specs.declared.edition.Edition.{Edition}
 use Rattle.go_scan.specs.declared.token.TokenKind.{TokenKind}
 use Rattle.go_ast.specs.Expected.{Expected, an_operand, a_value, a_type, a_declared_type, a_parameter_type, a_length, an_index, an_index_end, an_element_end, a_field_end, a_result_end, behind_a_name, behind_a_jump, an_import, an_import_path, another}
-use Rattle.go_ast.specs.Trees.{TypeExpr, Expr, name}
+use Rattle.go_ast.specs.Trees.{TypeExpr, Expression, name}
 use Rattle.go_ast.specs.Grammar.{Lexeme}
-use Rattle.go_ast.specs.Machine.{ListKind, fields, arguments, elements, const_specs, var_specs, type_specs, import_specs, statements, parameters, results, Position, in_list, in_header, in_for, behind_turns, State, behind_left, newer}
+use Rattle.go_ast.specs.Machine.{ListKind, fields, arguments, elements, const_specs, var_specs, type_specs, import_specs, statements, parameters, results, Position, in_list, in_header, in_for, behind_turns, Reader, behind_left, newer}
 use Rattle.go_ast.proofs.LeftOutStates.{Last, other, name_last, names, bracket, equals, nameable, label, ImportOk, TypeOk, ExprOk, EndOk, ClauseOk, bounded, NewerOk}
 use Rattle.go_ast.proofs.LeftOutLed.{newer_label}
 
@@ -15,7 +15,7 @@ module _ (ed : Edition) (T : Expected → Bool) where
   import_off a b name_last an_import_path h = b
   import_off a b _ _ h = absurd h
 
-  pub type_off : T a_type ≡ false → T a_declared_type ≡ false → T a_parameter_type ≡ false → (p : Last) (x : Expected) (next : TypeExpr → State) →
+  pub type_off : T a_type ≡ false → T a_declared_type ≡ false → T a_parameter_type ≡ false → (p : Last) (x : Expected) (next : TypeExpr → Reader) →
       TypeOk ed p x next →
       T x ≡ false
   type_off a b c other a_type next h = a
@@ -24,7 +24,7 @@ module _ (ed : Edition) (T : Expected → Bool) where
   type_off a b c name_last a_declared_type next h = b
   type_off a b c _ _ next h = absurd h
 
-  pub expr_off : T an_operand ≡ false → T a_value ≡ false → T a_length ≡ false → T an_index ≡ false → (p : Last) (x : Expected) (s : State) →
+  pub expr_off : T an_operand ≡ false → T a_value ≡ false → T a_length ≡ false → T an_index ≡ false → (p : Last) (x : Expected) (s : Reader) →
       ExprOk ed p x s →
       T x ≡ false
   expr_off a b c d other an_operand s h = a
@@ -35,7 +35,7 @@ module _ (ed : Edition) (T : Expected → Bool) where
   expr_off a b c d _ _ s h = absurd h
 
   pub newer_off : T a_length ≡ false → T an_index ≡ false → T an_index_end ≡ false → (p : Last) (kind : TokenKind) (need : ℕ) (x : Expected)
-      (some : Lexeme → State) (none : State) (k : TokenKind) → NewerOk ed p kind x some → label none k ≡ x → T (label (newer kind need x some none) k) ≡ false
+      (some : Lexeme → Reader) (none : Reader) (k : TokenKind) → NewerOk ed p kind x some → label none k ≡ x → T (label (newer kind need x some none) k) ≡ false
   newer_off a b c p kind need x some none k h e = ap T (newer_label kind need x some none k e ∙ e) ∙ at x h
     where
       at : (y : Expected) → NewerOk ed p kind y some → T y ≡ false
@@ -44,7 +44,7 @@ module _ (ed : Edition) (T : Expected → Bool) where
       at an_index_end h = c
       at _ h = absurd h
 
-  pub left_off : T behind_a_name ≡ false → T another ≡ false → (m : Position) (e : Expr) → T (behind_left m e) ≡ false
+  pub left_off : T behind_a_name ≡ false → T another ≡ false → (m : Position) (e : Expression) → T (behind_left m e) ≡ false
   left_off a b in_list (name p text) = a
   left_off a b in_list _ = b
   left_off a b in_header e = b

@@ -8,10 +8,10 @@ use Rattle.go_scan.specs.declared.punctuation.Punctuation.TheVariants as marks
 use Rattle.go_ast.specs.Kinds.{same}
 use Rattle.go_ast.specs.Operators.{assignment_of}
 use Rattle.go_ast.specs.Expected.{an_operand, a_value, another}
-use Rattle.go_ast.specs.Trees.{Name, BinaryOperator, Expr, Exprs, Simple, call_statement, increment, decrement, assignment, operator_assignment, short_var_decl, File, pack}
+use Rattle.go_ast.specs.Trees.{Name, BinaryOperator, Expression, ExpressionList, Simple, call_statement, increment, decrement, assignment, operator_assignment, short_var_decl, File, pack}
 use Rattle.go_ast.specs.Heights.{height, exprs_height, simple_height}
 use Rattle.go_ast.specs.Grammar.{Lexeme, Token, assign, comma, define, opening_brace, IsExpr, AreMoreExprs, AreExprs, is_call, is_short_var_decl}
-use Rattle.go_ast.specs.Machine.{Position, in_list, in_header, in_for, behind_turns, State, lefts, Move, Take, Fail, cond, keyword, is_some, name_if, names_if, may_define, is_header, short_var_decl_values, behind_define, on_define, on_assignment, on_lefts, on_left, behind_left, step}
+use Rattle.go_ast.specs.Machine.{Position, in_list, in_header, in_for, behind_turns, Reader, lefts, Move, Take, Fail, cond, keyword, is_some, name_if, names_if, may_define, is_header, short_var_decl_values, behind_define, on_define, on_assignment, on_lefts, on_left, behind_left, parser_step}
 use Rattle.go_ast.proofs.Positions.{is_for}
 use Rattle.go_ast.proofs.Same.{are_same, is_same, not_same}
 use Rattle.go_ast.proofs.Means.{begins, continues, Continues, AllFit, Means, Okay, After}
@@ -20,16 +20,16 @@ use Rattle.go_ast.proofs.Values.{values_back, values_forth, exprs_fit}
 use Rattle.go_ast.proofs.Simple.{push_assoc, push_split, is_name}
 
 -- several aren't one
-pub not_one : (front : List Expr) (e a : Expr) → front ≢ [] → front ++ e ∷ [] ≡ a ∷ [] → ⊥
+pub not_one : (front : List Expression) (e a : Expression) → front ≢ [] → front ++ e ∷ [] ≡ a ∷ [] → ⊥
 not_one [] e a some q = some refl
 not_one (x ∷ []) e a some q = let c : x ∷ e ∷ [] ≡ a ∷ [] = q in cc (c)
 not_one (x ∷ y ∷ front) e a some q = let c : x ∷ y ∷ (front ++ e ∷ []) ≡ a ∷ [] = q in cc (c)
 
-some_names : (front : List Expr) (e : Expr) → names_if (front ++ e ∷ []) ≡ Some [] → ⊥
+some_names : (front : List Expression) (e : Expression) → names_if (front ++ e ∷ []) ≡ Some [] → ⊥
 some_names [] e q = let s = push_split (name_if e) (Some []) [] q in let c : [] ≡ s.0 ∷ s.1 = s.4 in cc (c)
 some_names (x ∷ front) e q = let s = push_split (name_if x) (names_if (front ++ e ∷ [])) [] q in let c : [] ≡ s.0 ∷ s.1 = s.4 in cc (c)
 
-pub not_one_name : (front : List Expr) (e : Expr) (n : Name) → front ≢ [] → names_if (front ++ e ∷ []) ≡ Some (n ∷ []) → ⊥
+pub not_one_name : (front : List Expression) (e : Expression) (n : Name) → front ≢ [] → names_if (front ++ e ∷ []) ≡ Some (n ∷ []) → ⊥
 not_one_name [] e n some q = some refl
 not_one_name (x ∷ front) e n some q =
     let s = push_split (name_if x) (names_if (front ++ e ∷ [])) (n ∷ []) q in
@@ -38,19 +38,19 @@ not_one_name (x ∷ front) e n some q =
     some_names front e (s.3 ∙ ap Some none)
 
 -- a name has one level
-name_height : (e : Expr) (n : Name) → name_if e ≡ Some n → height e ≡ 1
+name_height : (e : Expression) (n : Name) → name_if e ≡ Some n → height e ≡ 1
 name_height e n q = ap height (is_name e n q)
 
-pub named_height : (front : List Expr) (e : Expr) (es : List Expr) (ns : List Name) → names_if (front ++ e ∷ es) ≡ Some ns → height e ≡ 1
+pub named_height : (front : List Expression) (e : Expression) (es : List Expression) (ns : List Name) → names_if (front ++ e ∷ es) ≡ Some ns → height e ≡ 1
 named_height [] e es ns q = let s = push_split (name_if e) (names_if es) ns q in name_height e s.0 s.2
 named_height (x ∷ front) e es ns q = let s = push_split (name_if x) (names_if (front ++ e ∷ es)) ns q in named_height front e es s.1 s.3
 
-pub height_in : (front : List Expr) (e : Expr) (es : List Expr) → height e ≤ exprs_height (pack (front ++ e ∷ es))
+pub height_in : (front : List Expression) (e : Expression) (es : List Expression) → height e ≤ exprs_height (pack (front ++ e ∷ es))
 height_in [] e es = omega arith
 height_in (x ∷ front) e es = omega (arith, height_in front e es)
 
 -- behind a comma and one more
-after_comma : (ed : Edition) → (h : Bool) (front : List Expr) (e : Expr) (s : Simple) (t : Lexeme) (us vs ws : List Lexeme) → front ≢ [] → t.kind ≡ comma → IsExpr ed 5 h e us vs →
+after_comma : (ed : Edition) → (h : Bool) (front : List Expression) (e : Expression) (s : Simple) (t : Lexeme) (us vs ws : List Lexeme) → front ≢ [] → t.kind ≡ comma → IsExpr ed 5 h e us vs →
     Continues ed h (front ++ e ∷ []) s vs ws → Continues ed h front s (t ∷ us) ws
 after_comma ed h front e (call_statement a) t us vs ws some k d c = absurd (not_one front e a some c.0)
 after_comma ed h front e (increment a) t us vs ws some k d c = absurd (not_one front e a some c.1)
@@ -104,15 +104,15 @@ defines in_for f = refl
 
 module _ (ed : Edition) (B : ℕ) where
   -- behind `:=`
-  abbrev Ranges : Position → Bool → ℕ → List Name → (Name → Expr → State) → List Lexeme → File → Type 0
+  abbrev Ranges : Position → Bool → ℕ → List Name → (Name → Expression → Reader) → List Lexeme → File → Type 0
   Ranges m h l ns range us f =
-      (n : Name) × (e : Expr) × (r : Lexeme) × (xs ws : List Lexeme) × (is_for m ≡ true) × (ns ≡ n ∷ []) × Token (keyword keywords.Range) r us xs
+      (n : Name) × (e : Expression) × (r : Lexeme) × (xs ws : List Lexeme) × (is_for m ≡ true) × (ns ≡ n ∷ []) × Token (keyword keywords.Range) r us xs
       × IsExpr ed 5 h e xs ws × (l + height e ≤ B + 1) × Means ed B (range n e) ws f
 
-  abbrev Defines : Bool → ℕ → List Name → (Simple → State) → List Lexeme → File → Type 0
-  Defines h l ns next us f = (rs : Exprs) × (ws : List Lexeme) × AreExprs ed h rs us ws × (l + exprs_height rs ≤ B + 1) × Means ed B (next (short_var_decl ns rs)) ws f
+  abbrev Defines : Bool → ℕ → List Name → (Simple → Reader) → List Lexeme → File → Type 0
+  Defines h l ns next us f = (rs : ExpressionList) × (ws : List Lexeme) × AreExprs ed h rs us ws × (l + exprs_height rs ≤ B + 1) × Means ed B (next (short_var_decl ns rs)) ws f
 
-  define_back : (m : Position) (h : Bool) (l : ℕ) (ns : List Name) (next : Simple → State) (range : Name → Expr → State) (us : List Lexeme) (f : File) →
+  define_back : (m : Position) (h : Bool) (l : ℕ) (ns : List Name) (next : Simple → Reader) (range : Name → Expression → Reader) (us : List Lexeme) (f : File) →
       Means ed B (behind_define m h l ns next range) us f → Defines h l ns next us f ⊎ Ranges m h l ns range us f
   define_back in_for h l (n ∷ []) next range us f g = elim g [
     | inl a ↦ inr (n, a.4.0, a.0, a.1, a.4.1, refl, refl, a.2, a.4.2, a.4.3, a.4.4)
@@ -120,12 +120,12 @@ module _ (ed : Edition) (B : ℕ) where
   ]
   define_back m h l ns next range us f g = inl (values_back ed B h l an_operand (λ rs. next (short_var_decl ns rs)) us f g)
 
-  values_behind : (m : Position) (h : Bool) (l : ℕ) (ns : List Name) (next : Simple → State) (range : Name → Expr → State) (us : List Lexeme) (f : File) →
+  values_behind : (m : Position) (h : Bool) (l : ℕ) (ns : List Name) (next : Simple → Reader) (range : Name → Expression → Reader) (us : List Lexeme) (f : File) →
       Means ed B (short_var_decl_values h l ns next) us f → Means ed B (behind_define m h l ns next range) us f
   values_behind in_for h l (n ∷ []) next range us f g = inr g
   values_behind m h l ns next range us f g = g
 
-  range_behind : (m : Position) (h : Bool) (l : ℕ) (n : Name) (next : Simple → State) (range : Name → Expr → State) (e : Expr) (r : Lexeme)
+  range_behind : (m : Position) (h : Bool) (l : ℕ) (n : Name) (next : Simple → Reader) (range : Name → Expression → Reader) (e : Expression) (r : Lexeme)
       (us xs ws : List Lexeme) (f : File) →
       is_for m ≡ true → Token (keyword keywords.Range) r us xs → IsExpr ed 5 h e xs ws → l + height e ≤ B + 1 → Means ed B (range n e) ws f →
       Means ed B (behind_define m h l (n ∷ []) next range) us f
@@ -134,13 +134,13 @@ module _ (ed : Edition) (B : ℕ) where
   range_behind in_header h l n next range e r us xs ws f i k d le g = absurd (false_true i)
   range_behind behind_turns h l n next range e r us xs ws f i k d le g = absurd (false_true i)
 
-  module _ (m : Position) (h : Bool) (l : ℕ) (next : Simple → State) (alone : Expr → State) (range : Name → Expr → State) (t : Lexeme) (us : List Lexeme)
+  module _ (m : Position) (h : Bool) (l : ℕ) (next : Simple → Reader) (alone : Expression → Reader) (range : Name → Expression → Reader) (t : Lexeme) (us : List Lexeme)
       (f : File) where
-    abbrev Behind : List Expr → Type 0
+    abbrev Behind : List Expression → Type 0
     Behind front = Means ed B (lefts m h l front next alone range) (t ∷ us) f
 
     -- what is taken is so
-    comma_back : (front : List Expr) → front ≢ [] → t.kind ≡ comma → (e : Expr) (vs : List Lexeme) → IsExpr ed 5 h e us vs →
+    comma_back : (front : List Expression) → front ≢ [] → t.kind ≡ comma → (e : Expression) (vs : List Lexeme) → IsExpr ed 5 h e us vs →
         Means ed B (lefts m h l (front ++ e ∷ []) next alone range) vs f → Behind front
     comma_back front some k e vs d g = elim g [
       | inl s ↦ inl (s.0, s.1, after_comma ed h front e s.0 t us vs s.1 some k d s.2, s.3, s.4, s.5)
@@ -150,7 +150,7 @@ module _ (ed : Edition) (B : ℕ) where
       ]
     ]
 
-    on_define_back : (front : List Expr) (other : Move) (o : Option (List Name)) → names_if front ≡ o → (After ed B other us f → Behind front) →
+    on_define_back : (front : List Expression) (other : Move) (o : Option (List Name)) → names_if front ≡ o → (After ed B other us f → Behind front) →
         After ed B (on_define m h l next range t other o) us f → Behind front
     on_define_back front other None q rest a = rest a
     on_define_back front other (Some ns) q rest a =
@@ -171,7 +171,7 @@ module _ (ed : Edition) (B : ℕ) where
           | inr c ↦ rest c.1
         ]
 
-    on_lefts_back : (front : List Expr) (other : Move) → l ≤ B → AllFit ed B height l front → front ≢ [] → (After ed B other us f → Behind front) →
+    on_lefts_back : (front : List Expression) (other : Move) → l ≤ B → AllFit ed B height l front → front ≢ [] → (After ed B other us f → Behind front) →
         After ed B (on_lefts m h l front next alone range t other) us f → Behind front
     on_lefts_back front other le fits some rest a = elim (after_cond ed B (same comma t.kind) _ _ us f a) [
       | inl c ↦ (let g = c.1.1 in comma_back front some (are_same comma t.kind c.0) g.0 g.1 g.2 g.4)
@@ -190,16 +190,16 @@ module _ (ed : Edition) (B : ℕ) where
     ]
 
     -- behind one
-    on_assignment_back : (e : Expr) (other : Move) (o : Option BinaryOperator) → assignment_of t.kind ≡ o → l + height e ≤ B + 1 →
+    on_assignment_back : (e : Expression) (other : Move) (o : Option BinaryOperator) → assignment_of t.kind ≡ o → l + height e ≤ B + 1 →
         (After ed B other us f → Behind (e ∷ [])) → After ed B (on_assignment h l e next other o) us f → Behind (e ∷ [])
     on_assignment_back e other None q le rest a = rest a
     on_assignment_back e other (Some op) q le rest a =
         let g = a.1 in inl (operator_assignment op e g.0, g.1, (t, us, refl, refl, q, g.2), omega (arith, le, g.3), (λ _. refl), g.4)
 
-    abbrev Last : Expr → Move
-    Last e = cond (is_header m && same opening_brace t.kind) (step ed (alone e) t) (cond (is_call e) (step ed (next (call_statement e)) t) (Fail (behind_left m e)))
+    abbrev Last : Expression → Move
+    Last e = cond (is_header m && same opening_brace t.kind) (parser_step ed (alone e) t) (cond (is_call e) (parser_step ed (next (call_statement e)) t) (Fail (behind_left m e)))
 
-    on_left_back : (e : Expr) → l + height e ≤ B + 1 → (After ed B (Last e) us f → Behind (e ∷ [])) →
+    on_left_back : (e : Expression) → l + height e ≤ B + 1 → (After ed B (Last e) us f → Behind (e ∷ [])) →
         After ed B (on_left h l e next t (Last e)) us f → Behind (e ∷ [])
     on_left_back e le rest a = elim (after_cond ed B (same increments t.kind) _ _ us f a) [
       | inl c ↦ inl (increment e, us, (t, refl, token_here increments t us (are_same _ t.kind c.0)), le, (λ _. refl), c.1.1)
@@ -209,8 +209,8 @@ module _ (ed : Edition) (B : ℕ) where
       ]
     ]
 
-    last_back : (e : Expr) → l + height e ≤ B + 1 → (is_header m ≡ true → After ed B (step ed (alone e) t) us f → Means ed B (alone e) (t ∷ us) f) →
-        (After ed B (step ed (next (call_statement e)) t) us f → Means ed B (next (call_statement e)) (t ∷ us) f) → After ed B (Last e) us f → Behind (e ∷ [])
+    last_back : (e : Expression) → l + height e ≤ B + 1 → (is_header m ≡ true → After ed B (parser_step ed (alone e) t) us f → Means ed B (alone e) (t ∷ us) f) →
+        (After ed B (parser_step ed (next (call_statement e)) t) us f → Means ed B (next (call_statement e)) (t ∷ us) f) → After ed B (Last e) us f → Behind (e ∷ [])
     last_back e le by_alone by_next a = elim (after_cond ed B (is_header m && same opening_brace t.kind) _ _ us f a) [
       | inl c ↦ (let k = both_true (is_header m) (same opening_brace t.kind) c.0 in
           inr (inl (e, refl, k.0, are_same opening_brace t.kind k.1, by_alone k.0 c.1)))
@@ -220,10 +220,10 @@ module _ (ed : Edition) (B : ℕ) where
       ]
     ]
 
-    pub lefts_back : (front : List Expr) → Okay ed B (lefts m h l front next alone range) →
-        ((e : Expr) → Okay ed B (alone e) → After ed B (step ed (alone e) t) us f → Means ed B (alone e) (t ∷ us) f) →
-        ((s : Simple) → Okay ed B (next s) → After ed B (step ed (next s) t) us f → Means ed B (next s) (t ∷ us) f) →
-        After ed B (step ed (lefts m h l front next alone range) t) us f → Behind front
+    pub lefts_back : (front : List Expression) → Okay ed B (lefts m h l front next alone range) →
+        ((e : Expression) → Okay ed B (alone e) → After ed B (parser_step ed (alone e) t) us f → Means ed B (alone e) (t ∷ us) f) →
+        ((s : Simple) → Okay ed B (next s) → After ed B (parser_step ed (next s) t) us f → Means ed B (next s) (t ∷ us) f) →
+        After ed B (parser_step ed (lefts m h l front next alone range) t) us f → Behind front
     lefts_back [] ok by_alone by_next a = absurd (ok.2 refl)
     lefts_back (e ∷ []) ok by_alone by_next a =
         on_lefts_back (e ∷ []) (on_left h l e next t (Last e)) ok.0 ok.1 ok.2
@@ -238,17 +238,17 @@ module _ (ed : Edition) (B : ℕ) where
         (subst (λ b. After ed B (cond b (Take 0 (behind_define m h l ns next range)) other) us f)
         (sym (both_are (same define t.kind) (may_define m) (is_same define t.kind k) may)) (omega arith, g))
 
-    defined : (front : List Expr) (other : Move) (ns : List Name) → names_if front ≡ Some ns → t.kind ≡ define → may_define m ≡ true →
+    defined : (front : List Expression) (other : Move) (ns : List Name) → names_if front ≡ Some ns → t.kind ≡ define → may_define m ≡ true →
         Means ed B (behind_define m h l ns next range) us f → After ed B (on_lefts m h l front next alone range t other) us f
     defined front other ns q k may g =
         after_other ed B comma t _ _ us f (ap (same comma) k)
         (after_other ed B assign t _ _ us f (ap (same assign) k) (on_define_forth other (names_if front) ns q k may g))
 
-    continued : (front : List Expr) (other : Move) (e : Expr) (vs : List Lexeme) → t.kind ≡ comma → IsExpr ed 5 h e us vs → l + height e ≤ B + 1 →
+    continued : (front : List Expression) (other : Move) (e : Expression) (vs : List Lexeme) → t.kind ≡ comma → IsExpr ed 5 h e us vs → l + height e ≤ B + 1 →
         Means ed B (lefts m h l (front ++ e ∷ []) next alone range) vs f → After ed B (on_lefts m h l front next alone range t other) us f
     continued front other e vs k d le g = after_same ed B comma t _ _ us f k (omega arith, (e, vs, d, le, g))
 
-    assign_forth : (front : List Expr) (other : Move) (es : List Expr) (ls rs : Exprs) (c : Lexeme) (vs xs ws : List Lexeme) →
+    assign_forth : (front : List Expression) (other : Move) (es : List Expression) (ls rs : ExpressionList) (c : Lexeme) (vs xs ws : List Lexeme) →
         AreMoreExprs ed h (pack es) (t ∷ us) vs → ls ≡ pack (front ++ es) → Token assign c vs xs → AreExprs ed h rs xs ws →
         l + simple_height (assignment ls rs) ≤ B + 1 → Means ed B (next (assignment ls rs)) ws f → After ed B (on_lefts m h l front next alone range t other) us f
     assign_forth front other [] ls rs c vs xs ws more q k d le g =
@@ -264,7 +264,7 @@ module _ (ed : Edition) (B : ℕ) where
         continued front other e more.2 i.2 (subst (λ x. IsExpr ed 5 h e x more.2) (sym i.1) more.4) (omega (arith, le, same_height, height_in front e es))
         (inl (assignment ls rs, ws, (es, c, vs, xs, more.5, q ∙ ap pack (sym (push_assoc front e es)), k, d), le, (λ _. refl), g))
 
-    short_var_decl_forth : (front : List Expr) (other : Move) (es : List Expr) (ns : List Name) (rs : Exprs) (c : Lexeme) (vs xs ws : List Lexeme) → l ≤ B →
+    short_var_decl_forth : (front : List Expression) (other : Move) (es : List Expression) (ns : List Name) (rs : ExpressionList) (c : Lexeme) (vs xs ws : List Lexeme) → l ≤ B →
         AreMoreExprs ed h (pack es) (t ∷ us) vs → names_if (front ++ es) ≡ Some ns → Token define c vs xs → AreExprs ed h rs xs ws →
         l + exprs_height rs ≤ B + 1 → may_define m ≡ true → Means ed B (next (short_var_decl ns rs)) ws f →
         After ed B (on_lefts m h l front next alone range t other) us f
@@ -284,33 +284,33 @@ module _ (ed : Edition) (B : ℕ) where
     on_define_passes other None q a = a
     on_define_passes other (Some ns) q a = subst (λ b. After ed B (cond (b && may_define m) (Take 0 (behind_define m h l ns next range)) other) us f) (sym q) a
 
-    passes : (front : List Expr) (other : Move) → same comma t.kind ≡ false → same assign t.kind ≡ false → same define t.kind ≡ false →
+    passes : (front : List Expression) (other : Move) → same comma t.kind ≡ false → same assign t.kind ≡ false → same define t.kind ≡ false →
         After ed B other us f → After ed B (on_lefts m h l front next alone range t other) us f
     passes front other c s d a = after_other ed B comma t _ _ us f c (after_other ed B assign t _ _ us f s (on_define_passes other (names_if front) d a))
 
-    passes_left : (e : Expr) → same increments t.kind ≡ false → same decrements t.kind ≡ false →
+    passes_left : (e : Expression) → same increments t.kind ≡ false → same decrements t.kind ≡ false →
         assignment_of t.kind ≡ None → After ed B (Last e) us f → After ed B (on_left h l e next t (Last e)) us f
     passes_left e i d n a =
         after_other ed B increments t _ _ us f i (after_other ed B decrements t _ _ us f d
         (subst (λ o. After ed B (on_assignment h l e next (Last e) o) us f) (sym n) a))
 
-    abbrev One : Expr → Type 0
+    abbrev One : Expression → Type 0
     One e = After ed B (on_lefts m h l (e ∷ []) next alone range t (on_left h l e next t (Last e))) us f
 
-    increment_forth : (e : Expr) (c : Lexeme) (ws : List Lexeme) → Token increments c (t ∷ us) ws → Means ed B (next (increment e)) ws f → One e
+    increment_forth : (e : Expression) (c : Lexeme) (ws : List Lexeme) → Token increments c (t ∷ us) ws → Means ed B (next (increment e)) ws f → One e
     increment_forth e c ws k g =
         let i = first_is increments t c us ws k in
         passes (e ∷ []) (on_left h l e next t (Last e)) (ap (same comma) i.2) (ap (same assign) i.2) (ap (same define) i.2)
         (after_same ed B increments t _ _ us f i.2 (omega arith, subst (λ x. Means ed B (next (increment e)) x f) (sym i.1) g))
 
-    decrement_forth : (e : Expr) (c : Lexeme) (ws : List Lexeme) → Token decrements c (t ∷ us) ws → Means ed B (next (decrement e)) ws f → One e
+    decrement_forth : (e : Expression) (c : Lexeme) (ws : List Lexeme) → Token decrements c (t ∷ us) ws → Means ed B (next (decrement e)) ws f → One e
     decrement_forth e c ws k g =
         let i = first_is decrements t c us ws k in
         passes (e ∷ []) (on_left h l e next t (Last e)) (ap (same comma) i.2) (ap (same assign) i.2) (ap (same define) i.2)
         (after_other ed B increments t _ _ us f (ap (same increments) i.2)
         (after_same ed B decrements t _ _ us f i.2 (omega arith, subst (λ x. Means ed B (next (decrement e)) x f) (sym i.1) g)))
 
-    operator_forth : (op : BinaryOperator) (e r : Expr) (ws : List Lexeme) → assignment_of t.kind ≡ Some op → IsExpr ed 5 h r us ws → l + height r ≤ B + 1 →
+    operator_forth : (op : BinaryOperator) (e r : Expression) (ws : List Lexeme) → assignment_of t.kind ≡ Some op → IsExpr ed 5 h r us ws → l + height r ≤ B + 1 →
         Means ed B (next (operator_assignment op e r)) ws f → One e
     operator_forth op e r ws q d le g =
         passes (e ∷ []) (on_left h l e next t (Last e)) (not_operator comma t op refl q) (not_operator assign t op refl q) (not_operator define t op refl q)
@@ -318,37 +318,37 @@ module _ (ed : Edition) (B : ℕ) where
         (after_other ed B decrements t _ _ us f (not_operator decrements t op refl q)
         (subst (λ o. After ed B (on_assignment h l e next (Last e) o) us f) (sym q) (omega arith, (r, ws, d, le, g)))))
 
-    alone_forth : (e : Expr) → t.kind ≡ opening_brace → is_header m ≡ true → After ed B (step ed (alone e) t) us f → One e
+    alone_forth : (e : Expression) → t.kind ≡ opening_brace → is_header m ≡ true → After ed B (parser_step ed (alone e) t) us f → One e
     alone_forth e k i a =
         passes (e ∷ []) (on_left h l e next t (Last e)) (ap (same comma) k) (ap (same assign) k) (ap (same define) k)
         (passes_left e (ap (same increments) k) (ap (same decrements) k) (ap assignment_of k)
-        (subst (λ b. After ed B (cond b (step ed (alone e) t) (cond (is_call e) (step ed (next (call_statement e)) t) (Fail (behind_left m e)))) us f)
+        (subst (λ b. After ed B (cond b (parser_step ed (alone e) t) (cond (is_call e) (parser_step ed (next (call_statement e)) t) (Fail (behind_left m e)))) us f)
         (sym (both_are (is_header m) (same opening_brace t.kind) i (is_same opening_brace t.kind k))) a))
 
-    call_forth : (e : Expr) → continues t.kind ≡ false → (is_header m ≡ true → same opening_brace t.kind ≡ false) → is_call e ≡ true →
-        After ed B (step ed (next (call_statement e)) t) us f → One e
+    call_forth : (e : Expression) → continues t.kind ≡ false → (is_header m ≡ true → same opening_brace t.kind ≡ false) → is_call e ≡ true →
+        After ed B (parser_step ed (next (call_statement e)) t) us f → One e
     call_forth e k n i a =
         let c = not_continued t.kind k in
         passes (e ∷ []) (on_left h l e next t (Last e)) c.0 c.1 c.2
         (passes_left e c.3 c.4 c.5
-        (subst (λ b. After ed B (cond b (step ed (alone e) t) (cond (is_call e) (step ed (next (call_statement e)) t) (Fail (behind_left m e)))) us f)
+        (subst (λ b. After ed B (cond b (parser_step ed (alone e) t) (cond (is_call e) (parser_step ed (next (call_statement e)) t) (Fail (behind_left m e)))) us f)
         (sym (and_false (is_header m) (same opening_brace t.kind) n))
-        (subst (λ b. After ed B (cond b (step ed (next (call_statement e)) t) (Fail (behind_left m e))) us f) (sym i) a)))
+        (subst (λ b. After ed B (cond b (parser_step ed (next (call_statement e)) t) (Fail (behind_left m e))) us f) (sym i) a)))
 
-    tested : (front : List Expr) → front ≢ [] → ((other : Move) → After ed B (on_lefts m h l front next alone range t other) us f) →
-        After ed B (step ed (lefts m h l front next alone range) t) us f
+    tested : (front : List Expression) → front ≢ [] → ((other : Move) → After ed B (on_lefts m h l front next alone range t other) us f) →
+        After ed B (parser_step ed (lefts m h l front next alone range) t) us f
     tested [] some a = absurd (some refl)
     tested (e ∷ []) some a = a (on_left h l e next t (Last e))
     tested (e ∷ x ∷ front) some a = a (Fail another)
 
-    one : (front : List Expr) (e : Expr) → front ≡ e ∷ [] → One e → After ed B (step ed (lefts m h l front next alone range) t) us f
-    one front e q a = subst (λ x. After ed B (step ed (lefts m h l x next alone range) t) us f) (sym q) a
+    one : (front : List Expression) (e : Expression) → front ≡ e ∷ [] → One e → After ed B (parser_step ed (lefts m h l front next alone range) t) us f
+    one front e q a = subst (λ x. After ed B (parser_step ed (lefts m h l x next alone range) t) us f) (sym q) a
 
-    statement_forth : (front : List Expr) → Okay ed B (lefts m h l front next alone range) →
-        ((s : Simple) → Okay ed B (next s) → Means ed B (next s) (t ∷ us) f → After ed B (step ed (next s) t) us f) →
+    statement_forth : (front : List Expression) → Okay ed B (lefts m h l front next alone range) →
+        ((s : Simple) → Okay ed B (next s) → Means ed B (next s) (t ∷ us) f → After ed B (parser_step ed (next s) t) us f) →
         ((s : Simple) → Means ed B (next s) (t ∷ us) f → begins (next s) t.kind ≡ true) →
         (s : Simple) (ws : List Lexeme) → Continues ed h front s (t ∷ us) ws → l + simple_height s ≤ B + 1 → (may_define m ≡ false → is_short_var_decl s ≡ false) →
-        Means ed B (next s) ws f → After ed B (step ed (lefts m h l front next alone range) t) us f
+        Means ed B (next s) ws f → After ed B (parser_step ed (lefts m h l front next alone range) t) us f
     statement_forth front ok by_next first (call_statement e) ws c le may g =
         let there : Means ed B (next (call_statement e)) (t ∷ us) f = subst (λ x. Means ed B (next (call_statement e)) x f) (sym c.2) g in
         let ends = ok.4 (call_statement e) t.kind (first (call_statement e) there) in
@@ -366,11 +366,11 @@ module _ (ed : Edition) (B : ℕ) where
     statement_forth front ok by_next first (short_var_decl ns rs) ws c le may g =
         tested front ok.2 (λ other. short_var_decl_forth front other c.0 ns rs c.1 c.2 c.3 ws ok.0 c.4 c.5 c.6 c.7 le (defines m may) g)
 
-    pub lefts_forth : (front : List Expr) → Okay ed B (lefts m h l front next alone range) →
-        ((e : Expr) → Okay ed B (alone e) → Means ed B (alone e) (t ∷ us) f → After ed B (step ed (alone e) t) us f) →
-        ((s : Simple) → Okay ed B (next s) → Means ed B (next s) (t ∷ us) f → After ed B (step ed (next s) t) us f) →
+    pub lefts_forth : (front : List Expression) → Okay ed B (lefts m h l front next alone range) →
+        ((e : Expression) → Okay ed B (alone e) → Means ed B (alone e) (t ∷ us) f → After ed B (parser_step ed (alone e) t) us f) →
+        ((s : Simple) → Okay ed B (next s) → Means ed B (next s) (t ∷ us) f → After ed B (parser_step ed (next s) t) us f) →
         ((s : Simple) → Means ed B (next s) (t ∷ us) f → begins (next s) t.kind ≡ true) →
-        Behind front → After ed B (step ed (lefts m h l front next alone range) t) us f
+        Behind front → After ed B (parser_step ed (lefts m h l front next alone range) t) us f
     lefts_forth front ok by_alone by_next first g = elim g [
       | inl s ↦ statement_forth front ok by_next first s.0 s.1 s.2 s.3 s.4 s.5
       | inr r ↦ elim r [

@@ -7,10 +7,10 @@ use Rattle.go_scan.specs.declared.punctuation.Punctuation.TheVariants as marks
 use Rattle.go_ast.specs.Kinds.{same}
 use Rattle.go_ast.specs.Operators.{binary_of, assignment_of}
 use Rattle.go_ast.specs.Expected.{Expected, an_operand, a_value, another}
-use Rattle.go_ast.specs.Trees.{Name, BinaryOperator, Expr, name, no_exprs, some_exprs, Simple, call_statement, increment, decrement, assignment, operator_assignment, short_var_decl, File, pack}
+use Rattle.go_ast.specs.Trees.{Name, BinaryOperator, Expression, name, no_exprs, some_exprs, Simple, call_statement, increment, decrement, assignment, operator_assignment, short_var_decl, File, pack}
 use Rattle.go_ast.specs.Heights.{height, simple_height}
 use Rattle.go_ast.specs.Grammar.{Lexeme, Token, assign, comma, define, period, opening, opening_bracket, opening_brace, AreMoreExprs, is_call}
-use Rattle.go_ast.specs.Machine.{Position, in_for, State, expr, lefts, Move, Fail, cond, is_some, names_if, may_define, is_header, short_var_decl_values, behind_define, on_define, on_assignment, on_lefts, on_left, behind_left, step}
+use Rattle.go_ast.specs.Machine.{Position, in_for, Reader, expr, lefts, Move, Fail, cond, is_some, names_if, may_define, is_header, short_var_decl_values, behind_define, on_define, on_assignment, on_lefts, on_left, behind_left, parser_step}
 use Rattle.go_ast.proofs.Positions.{is_for}
 use Rattle.go_ast.proofs.Same.{are_same, is_same}
 use Rattle.go_ast.proofs.Means.{begins, continues, is_tail, Closes, Continues, Means, Okay, Good, Ends, EndsSimple, Kept}
@@ -25,15 +25,15 @@ operator_continues : (k : TokenKind) (op : BinaryOperator) → assignment_of k �
 operator_continues k op q =
     right_true (same comma k || same assign k || same define k || same increments k || same decrements k) (is_some (assignment_of k)) (ap is_some q)
 
-more_first : (ed : Edition) → (h : Bool) (es : List Expr) (k : TokenKind) (t c : Lexeme) (us vs xs : List Lexeme) → continues k ≡ true → AreMoreExprs ed h (pack es) (t ∷ us) vs →
+more_first : (ed : Edition) → (h : Bool) (es : List Expression) (k : TokenKind) (t c : Lexeme) (us vs xs : List Lexeme) → continues k ≡ true → AreMoreExprs ed h (pack es) (t ∷ us) vs →
     Token k c vs xs → continues t.kind ≡ true
 more_first ed h [] k t c us vs xs q more d = let i = first_is k t c us xs (record { whole = more ∙ d.whole; is = d.is }) in ap continues i.2 ∙ q
 more_first ed h (e ∷ es) k t c us vs xs q more d = let i = first_is comma t more.0 us more.1 more.3 in ap continues i.2
 
-abbrev Ending : List Expr → Simple → List Lexeme → List Lexeme → Type 0
-Ending front s us ws = (e : Expr) × (front ≡ e ∷ []) × (s ≡ call_statement e) × (is_call e ≡ true) × (us ≡ ws)
+abbrev Ending : List Expression → Simple → List Lexeme → List Lexeme → Type 0
+Ending front s us ws = (e : Expression) × (front ≡ e ∷ []) × (s ≡ call_statement e) × (is_call e ≡ true) × (us ≡ ws)
 
-simple_first : (ed : Edition) → (h : Bool) (front : List Expr) (s : Simple) (t : Lexeme) (us ws : List Lexeme) → Continues ed h front s (t ∷ us) ws →
+simple_first : (ed : Edition) → (h : Bool) (front : List Expression) (s : Simple) (t : Lexeme) (us ws : List Lexeme) → Continues ed h front s (t ∷ us) ws →
     (continues t.kind ≡ true) ⊎ Ending front s (t ∷ us) ws
 simple_first ed h front (call_statement e) t us ws c = inr (e, c.0, refl, c.1, c.2)
 simple_first ed h front (increment e) t us ws c = inl (ap continues (first_is increments t c.0 us ws c.2).2)
@@ -107,12 +107,12 @@ push_some [] e = λ q. let c : e ∷ [] ≡ [] = q in cc (c)
 push_some (x ∷ front) e = λ q. let c : x ∷ (front ++ e ∷ []) ≡ [] = q in cc (c)
 
 module _ (ed : Edition) (B : ℕ) where
-  module _ (m : Position) (h : Bool) (l : ℕ) (next : Simple → State) (alone : Expr → State) (range : Name → Expr → State) where
-    abbrev Left : List Expr → State
+  module _ (m : Position) (h : Bool) (l : ℕ) (next : Simple → Reader) (alone : Expression → Reader) (range : Name → Expression → Reader) where
+    abbrev Left : List Expression → Reader
     Left front = lefts m h l front next alone range
 
     -- what may be behind the first, and behind others
-    many_begin : (front : List Expr) (e : Expr) (k : TokenKind) → front ≢ [] → begins (Left (front ++ e ∷ [])) k ≡ continues k
+    many_begin : (front : List Expression) (e : Expression) (k : TokenKind) → front ≢ [] → begins (Left (front ++ e ∷ [])) k ≡ continues k
     many_begin [] e k some = absurd (some refl)
     many_begin (x ∷ []) e k some = refl
     many_begin (x ∷ y ∷ front) e k some = refl
@@ -120,7 +120,7 @@ module _ (ed : Edition) (B : ℕ) where
     pub lefts_end : EndsSimple ed B m h next → (is_header m ≡ true → h ≡ true) → Ends ed B 5 h (λ e. Left (e ∷ []))
     lefts_end ends header = ends_if ed B 5 h (λ e. Left (e ∷ [])) behind
       where
-        behind : (e : Expr) (k : TokenKind) → begins (Left (e ∷ [])) k ≡ true → Closes h k
+        behind : (e : Expression) (k : TokenKind) → begins (Left (e ∷ [])) k ≡ true → Closes h k
         behind e k b = elim (either_true (continues k) _ b) [
           | inl c ↦ continues_closes h k c
           | inr c ↦ elim (either_true (is_call e && begins (next (call_statement e)) k) _ c) [
@@ -132,16 +132,16 @@ module _ (ed : Edition) (B : ℕ) where
 
     -- an expression, and what is behind it
     pub left_okay : (x : Expected) → ((s : Simple) → l + simple_height s ≤ B + 1 → Good ed B (next s)) → EndsSimple ed B m h next → (is_header m ≡ true → h ≡ true) →
-        (is_header m ≡ true → (e : Expr) → l + height e ≤ B + 1 → Good ed B (alone e)) →
-        (is_for m ≡ true → (n : Name) → ((e : Expr) → l + height e ≤ B + 1 → Good ed B (range n e)) × Ends ed B 5 h (range n)) →
+        (is_header m ≡ true → (e : Expression) → l + height e ≤ B + 1 → Good ed B (alone e)) →
+        (is_for m ≡ true → (n : Name) → ((e : Expression) → l + height e ≤ B + 1 → Good ed B (range n e)) × Ends ed B 5 h (range n)) →
         Okay ed B (expr 5 h l x (λ e. Left (e ∷ [])))
     left_okay x good ends header by_alone by_range =
         ((λ e fits. (tt, (omega (arith, fits, height_positive e), (fits, tt), push_some [] e, good, ends, by_alone, by_range))), lefts_end ends header)
 
     pub left_good : (x : Expected) → l ≤ B → ((s : Simple) → l + simple_height s ≤ B + 1 → Good ed B (next s)) → EndsSimple ed B m h next →
         (is_header m ≡ true → h ≡ true) →
-        (is_header m ≡ true → (e : Expr) → l + height e ≤ B + 1 → Good ed B (alone e)) →
-        (is_for m ≡ true → (n : Name) → ((e : Expr) → l + height e ≤ B + 1 → Good ed B (range n e)) × Ends ed B 5 h (range n)) →
+        (is_header m ≡ true → (e : Expression) → l + height e ≤ B + 1 → Good ed B (alone e)) →
+        (is_for m ≡ true → (n : Name) → ((e : Expression) → l + height e ≤ B + 1 → Good ed B (range n e)) × Ends ed B 5 h (range n)) →
         Good ed B (expr 5 h l x (λ e. Left (e ∷ [])))
     left_good x le good ends header by_alone by_range = (le, left_okay x good ends header by_alone by_range)
 
@@ -155,20 +155,20 @@ module _ (ed : Edition) (B : ℕ) where
         (λ rs k b. (ends (short_var_decl ns rs) k b).2)
 
     define_good : (q : Position) (ns : List Name) →
-        l ≤ B → (is_for q ≡ true → (n : Name) → ((e : Expr) → l + height e ≤ B + 1 → Good ed B (range n e)) × Ends ed B 5 h (range n)) →
+        l ≤ B → (is_for q ≡ true → (n : Name) → ((e : Expression) → l + height e ≤ B + 1 → Good ed B (range n e)) × Ends ed B 5 h (range n)) →
         Good ed B (short_var_decl_values h l ns next) → Good ed B (behind_define q h l ns next range)
     define_good in_for (n ∷ []) le by_range g = (inl (omega arith), ((λ t k need. (le, by_range refl n)), g.1, refl))
     define_good q ns le by_range g = g
 
     -- it stays good
     module _ (t : Lexeme) where
-      on_define_kept : (front : List Expr) (other : Move) (o : Option (List Name)) → Okay ed B (Left front) → Kept ed B other →
+      on_define_kept : (front : List Expression) (other : Move) (o : Option (List Name)) → Okay ed B (Left front) → Kept ed B other →
           Kept ed B (on_define m h l next range t other o)
       on_define_kept front other None ok rest = rest
       on_define_kept front other (Some ns) ok rest =
           kept_cond ed B (same define t.kind && may_define m) _ other (λ _ need. define_good m ns ok.0 ok.6 (short_var_decl_good ns ok.0 ok.3 ok.4)) (λ _. rest)
 
-      on_lefts_kept : (front : List Expr) (other : Move) → Okay ed B (Left front) → Kept ed B other → Kept ed B (on_lefts m h l front next alone range t other)
+      on_lefts_kept : (front : List Expression) (other : Move) → Okay ed B (Left front) → Kept ed B other → Kept ed B (on_lefts m h l front next alone range t other)
       on_lefts_kept front other ok rest =
           kept_cond ed B (same comma t.kind) _ _ (λ _ need. (
             ok.0,
@@ -183,7 +183,7 @@ module _ (ed : Edition) (B : ℕ) where
           (λ rs. no_comma ok.4 (assignment (pack front) rs)) (λ rs k b. (ok.4 (assignment (pack front) rs) k b).2))
           (λ _. on_define_kept front other (names_if front) ok rest))
 
-      on_assignment_kept : (e : Expr) (other : Move) (o : Option BinaryOperator) → Okay ed B (Left (e ∷ [])) → Kept ed B other →
+      on_assignment_kept : (e : Expression) (other : Move) (o : Option BinaryOperator) → Okay ed B (Left (e ∷ [])) → Kept ed B other →
           Kept ed B (on_assignment h l e next other o)
       on_assignment_kept e other None ok rest = rest
       on_assignment_kept e other (Some op) ok rest =
@@ -195,11 +195,11 @@ module _ (ed : Edition) (B : ℕ) where
             ),
           )
 
-      abbrev Last : Expr → Move
-      Last e = cond (is_header m && same opening_brace t.kind) (step ed (alone e) t) (cond (is_call e) (step ed (next (call_statement e)) t) (Fail (behind_left m e)))
+      abbrev Last : Expression → Move
+      Last e = cond (is_header m && same opening_brace t.kind) (parser_step ed (alone e) t) (cond (is_call e) (parser_step ed (next (call_statement e)) t) (Fail (behind_left m e)))
 
-      pub lefts_kept : (front : List Expr) → Okay ed B (Left front) → ((e : Expr) → Okay ed B (alone e) → Kept ed B (step ed (alone e) t)) →
-          ((s : Simple) → Okay ed B (next s) → Kept ed B (step ed (next s) t)) → Kept ed B (step ed (Left front) t)
+      pub lefts_kept : (front : List Expression) → Okay ed B (Left front) → ((e : Expression) → Okay ed B (alone e) → Kept ed B (parser_step ed (alone e) t)) →
+          ((s : Simple) → Okay ed B (next s) → Kept ed B (parser_step ed (next s) t)) → Kept ed B (parser_step ed (Left front) t)
       lefts_kept [] ok by_alone by_next = tt
       lefts_kept (e ∷ []) ok by_alone by_next =
           on_lefts_kept (e ∷ []) (on_left h l e next t (Last e)) ok
@@ -213,23 +213,23 @@ module _ (ed : Edition) (B : ℕ) where
 
     -- it begins as is said
     module _ (t : Lexeme) (us : List Lexeme) (f : File) where
-      call_begins : (e : Expr) → is_call e ≡ true → begins (next (call_statement e)) t.kind ≡ true → begins (Left (e ∷ [])) t.kind ≡ true
+      call_begins : (e : Expression) → is_call e ≡ true → begins (next (call_statement e)) t.kind ≡ true → begins (Left (e ∷ [])) t.kind ≡ true
       call_begins e c b = right_true (continues t.kind) _ (left_true (is_call e && begins (next (call_statement e)) t.kind) _ (both_are (is_call e) _ c b))
 
-      alone_begins : (e : Expr) → is_header m ≡ true → t.kind ≡ opening_brace → begins (alone e) t.kind ≡ true → begins (Left (e ∷ [])) t.kind ≡ true
+      alone_begins : (e : Expression) → is_header m ≡ true → t.kind ≡ opening_brace → begins (alone e) t.kind ≡ true → begins (Left (e ∷ [])) t.kind ≡ true
       alone_begins e i k b =
           right_true (continues t.kind) _ (right_true (is_call e && begins (next (call_statement e)) t.kind) _
           (both_are (is_header m && same opening_brace t.kind) _ (both_are (is_header m) _ i (is_same opening_brace t.kind k)) b))
 
-      continues_begins : (front : List Expr) → continues t.kind ≡ true → begins (Left front) t.kind ≡ true
+      continues_begins : (front : List Expression) → continues t.kind ≡ true → begins (Left front) t.kind ≡ true
       continues_begins [] c = c
       continues_begins (e ∷ []) c = left_true (continues t.kind) _ c
       continues_begins (e ∷ x ∷ front) c = c
 
-      at_one : (front : List Expr) (e : Expr) → front ≡ e ∷ [] → begins (Left (e ∷ [])) t.kind ≡ true → begins (Left front) t.kind ≡ true
+      at_one : (front : List Expression) (e : Expression) → front ≡ e ∷ [] → begins (Left (e ∷ [])) t.kind ≡ true → begins (Left front) t.kind ≡ true
       at_one front e q b = subst (λ x. begins (Left x) t.kind ≡ true) (sym q) b
 
-      pub lefts_first : (front : List Expr) → ((e : Expr) → Means ed B (alone e) (t ∷ us) f → begins (alone e) t.kind ≡ true) →
+      pub lefts_first : (front : List Expression) → ((e : Expression) → Means ed B (alone e) (t ∷ us) f → begins (alone e) t.kind ≡ true) →
           ((s : Simple) → Means ed B (next s) (t ∷ us) f → begins (next s) t.kind ≡ true) → Means ed B (Left front) (t ∷ us) f → begins (Left front) t.kind ≡ true
       lefts_first front by_alone by_next g = elim g [
         | inl s ↦ elim (simple_first ed h front s.0 t us s.1 s.2) [
@@ -244,7 +244,7 @@ module _ (ed : Edition) (B : ℕ) where
       ]
 
     -- it can be gone on with: by `=` and a name
-    pub lefts_comes : (front : List Expr) → Okay ed B (Left front) →
+    pub lefts_comes : (front : List Expression) → Okay ed B (Left front) →
         ((s : Simple) → l + simple_height s ≤ B + 1 → (us : List Lexeme) × (f : File) × Means ed B (next s) us f) → (us : List Lexeme) × (f : File)
         × Means ed B (Left front) us f
     lefts_comes front ok by_next =

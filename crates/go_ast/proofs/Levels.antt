@@ -1,6 +1,6 @@
 -- Each expression and each type has a level.
 use Rattle.std.proofs.Common.{◌≤◌, arith}
-use Rattle.go_ast.specs.Trees.{TypeExpr, named, qualified, array, slice, struct, Expr, name, integer, rune, string, parenthesized, composite_lit, conversion, selector, index, cut, call, type_operand, unary, binary}
+use Rattle.go_ast.specs.Trees.{TypeExpr, named, qualified, array, slice, struct, Expression, name, integer, rune, string, parenthesized, composite_lit, conversion, selector, index, cut, call, type_operand, unary, binary}
 use Rattle.go_ast.specs.Heights.{height, type_height}
 
 pub type_height_positive : (a : TypeExpr) → 1 ≤ type_height a
@@ -10,7 +10,7 @@ type_height_positive (array p e a) = omega arith
 type_height_positive (slice p a) = omega arith
 type_height_positive (struct p fs) = omega arith
 
-pub height_positive : (e : Expr) → 1 ≤ height e
+pub height_positive : (e : Expression) → 1 ≤ height e
 height_positive (name p text) = omega arith
 height_positive (integer p text) = omega arith
 height_positive (rune p value) = omega arith

@@ -6,10 +6,10 @@ use Rattle.go_scan.specs.declared.token.TokenKind.{TokenKind}
 use Rattle.go_ast.specs.Kinds.{same}
 use Rattle.go_ast.specs.Operators.{binary_of}
 use Rattle.go_ast.specs.Expected.{another}
-use Rattle.go_ast.specs.Trees.{TypeExpr, named, qualified, array, slice, struct, Expr, composite_lit, conversion, Elements, File, pack_elements}
+use Rattle.go_ast.specs.Trees.{TypeExpr, named, qualified, array, slice, struct, Expression, composite_lit, conversion, Elements, File, pack_elements}
 use Rattle.go_ast.specs.Heights.{height, type_height}
 use Rattle.go_ast.specs.Grammar.{Lexeme, Token, opening, closing, opening_brace, comma, period, IsType, is_named, converts, type_place}
-use Rattle.go_ast.specs.Machine.{State, token, optional, literal_elements, converted_operand, behind_literal_type}
+use Rattle.go_ast.specs.Machine.{Reader, token, optional, literal_elements, converted_operand, behind_literal_type}
 use Rattle.go_ast.proofs.Same.{are_same}
 use Rattle.go_ast.proofs.Means.{is_tail, Closes, begins, Means, Good}
 use Rattle.go_ast.proofs.Base.{false_true, either_true}
@@ -35,7 +35,7 @@ converts_unnamed (slice p a) e = refl
 converts_unnamed (struct p fs) e = refl
 
 -- no name is selected from a type that begins an operand
-pub no_period : (l : ℕ) (next : Expr → State) (a : TypeExpr) → begins (behind_literal_type l next a) period ≡ false
+pub no_period : (l : ℕ) (next : Expression → Reader) (a : TypeExpr) → begins (behind_literal_type l next a) period ≡ false
 no_period l next (named p n) = refl
 no_period l next (qualified p m n) = refl
 no_period l next (array p e a) = refl
@@ -47,11 +47,11 @@ named_never A e = absurd (false_true (sym e))
 
 module _ (ed : Edition) (B : ℕ) where
   -- an operand's tokens, that it fits, and what is behind it
-  abbrev pub Operated : ℕ → (Expr → State) → List Lexeme → File → Type 0
-  Operated l next us f = (e : Expr) × (ws : List Lexeme) × IsOperand ed e us ws × (l + height e ≤ B + 1) × Means ed B (next e) ws f
+  abbrev pub Operated : ℕ → (Expression → Reader) → List Lexeme → File → Type 0
+  Operated l next us f = (e : Expression) × (ws : List Lexeme) × IsOperand ed e us ws × (l + height e ≤ B + 1) × Means ed B (next e) ws f
 
   -- behind an opening brace or parenthesis
-  pub literal_back : (l : ℕ) (next : Expr → State) (a : TypeExpr) (o : Lexeme) (us vs xs : List Lexeme) (f : File) → is_named a ≡ false → IsType ed a us vs →
+  pub literal_back : (l : ℕ) (next : Expression → Reader) (a : TypeExpr) (o : Lexeme) (us vs xs : List Lexeme) (f : File) → is_named a ≡ false → IsType ed a us vs →
       Token opening_brace o vs xs → l + 1 ≤ B → l + type_height a ≤ B → Means ed B (literal_elements l next a o) xs f → Operated l next us f
   literal_back l next a o us vs xs f unnamed d b low le i = (
     composite_lit (type_place a) a o.place (pack_elements i.0),
@@ -61,7 +61,7 @@ module _ (ed : Edition) (B : ℕ) where
     i.7,
   )
 
-  pub converted_back : (l : ℕ) (next : Expr → State) (a : TypeExpr) (o : Lexeme) (us vs xs : List Lexeme) (f : File) → converts a ≡ true → IsType ed a us vs →
+  pub converted_back : (l : ℕ) (next : Expression → Reader) (a : TypeExpr) (o : Lexeme) (us vs xs : List Lexeme) (f : File) → converts a ≡ true → IsType ed a us vs →
       Token opening o vs xs → l + type_height a ≤ B → Means ed B (converted_operand l next a o) xs f → Operated l next us f
   converted_back l next a o us vs xs f converted d p le x = elim x.4 [
     | inl c ↦ (let z = c.4 in
@@ -69,7 +69,7 @@ module _ (ed : Edition) (B : ℕ) where
     | inr z ↦ (conversion (type_place a) a x.0, z.1, (o, z.0, vs, xs, x.1, x.1, converted, d, refl, p, x.2, inl refl, z.2), omega (arith, le, x.3), z.4)
   ]
 
-  either_back : (l : ℕ) (next : Expr → State) (a : TypeExpr) (us vs : List Lexeme) (f : File) → converts a ≡ true → IsType ed a us vs →
+  either_back : (l : ℕ) (next : Expression → Reader) (a : TypeExpr) (us vs : List Lexeme) (f : File) → converts a ≡ true → IsType ed a us vs →
       l + 1 + type_height a ≤ B + 1 →
       Means ed B (optional opening_brace (l + 1) (literal_elements l next a) (token opening (l + 1) another (converted_operand l next a))) vs f →
       Operated l next us f
@@ -77,7 +77,7 @@ module _ (ed : Edition) (B : ℕ) where
       literal_back l next a h.0 us vs h.1 f (converts_unnamed a converted) d h.2 h.3 (omega (arith, le)) h.4
   either_back l next a us vs f converted d le (inr h) = converted_back l next a h.0 us vs h.1 f converted d h.2 (omega (arith, le)) h.4
 
-  pub behind_literal_type_back : (l : ℕ) (next : Expr → State) (a : TypeExpr) (us vs : List Lexeme) (f : File) → is_named a ≡ false → IsType ed a us vs →
+  pub behind_literal_type_back : (l : ℕ) (next : Expression → Reader) (a : TypeExpr) (us vs : List Lexeme) (f : File) → is_named a ≡ false → IsType ed a us vs →
       l + 1 + type_height a ≤ B + 1 → Means ed B (behind_literal_type l next a) vs f → Operated l next us f
   behind_literal_type_back l next (named p n) us vs f unnamed d le m = named_never (Operated l next us f) unnamed
   behind_literal_type_back l next (qualified p k n) us vs f unnamed d le m = named_never (Operated l next us f) unnamed
@@ -87,7 +87,7 @@ module _ (ed : Edition) (B : ℕ) where
   behind_literal_type_back l next (struct p fs) us vs f unnamed d le m = either_back l next (struct p fs) us vs f refl d le m
 
   -- and back: behind the brace or parenthesis
-  pub elements_forth : (l : ℕ) (next : Expr → State) (us ws : List Lexeme) (f : File) (p : Place) (a : TypeExpr) (q : Place) (es : Elements) →
+  pub elements_forth : (l : ℕ) (next : Expression → Reader) (us ws : List Lexeme) (f : File) (p : Place) (a : TypeExpr) (q : Place) (es : Elements) →
       (d : IsOperand ed (composite_lit p a q es) us ws) → l + height (composite_lit p a q es) ≤ B + 1 → Means ed B (next (composite_lit p a q es)) ws f →
       Means ed B (literal_elements l next a d.0) d.3 f
   elements_forth l next us ws f p a q es d le m =
@@ -104,7 +104,7 @@ module _ (ed : Edition) (B : ℕ) where
         led ed B next (composite_lit (type_place a) a d.0.place (pack_elements (unpack_elements es))) (composite_lit p a q es) ws ws f (cc (place, brace, whole)) refl m,
       )
 
-  pub converted_forth : (l : ℕ) (next : Expr → State) (us ws : List Lexeme) (f : File) (p : Place) (a : TypeExpr) (e : Expr) →
+  pub converted_forth : (l : ℕ) (next : Expression → Reader) (us ws : List Lexeme) (f : File) (p : Place) (a : TypeExpr) (e : Expression) →
       (d : IsOperand ed (conversion p a e) us ws) → l + height (conversion p a e) ≤ B + 1 → Means ed B (next (conversion p a e)) ws f →
       Means ed B (converted_operand l next a d.0) d.3 f
   converted_forth l next us ws f p a e d le m =
@@ -122,7 +122,7 @@ module _ (ed : Edition) (B : ℕ) where
       )
 
   -- behind the type, whose tokens end in front of vs
-  pub literal_forth : (l : ℕ) (next : Expr → State) (us ws : List Lexeme) (f : File) (p : Place) (a : TypeExpr) (q : Place) (es : Elements) →
+  pub literal_forth : (l : ℕ) (next : Expression → Reader) (us ws : List Lexeme) (f : File) (p : Place) (a : TypeExpr) (q : Place) (es : Elements) →
       (d : IsOperand ed (composite_lit p a q es) us ws) → l + height (composite_lit p a q es) ≤ B + 1 → Means ed B (next (composite_lit p a q es)) ws f →
       Means ed B (behind_literal_type l next a) d.2 f
   literal_forth l next us ws f p (named r n) q es d le m = named_never _ d.5
@@ -133,7 +133,7 @@ module _ (ed : Edition) (B : ℕ) where
   literal_forth l next us ws f p (struct r fs) q es d le m =
       inl (d.0, d.3, d.8, omega arith, elements_forth l next us ws f p (struct r fs) q es d le m)
 
-  pub conversion_forth : (l : ℕ) (next : Expr → State) (us ws : List Lexeme) (f : File) (p : Place) (a : TypeExpr) (e : Expr) →
+  pub conversion_forth : (l : ℕ) (next : Expression → Reader) (us ws : List Lexeme) (f : File) (p : Place) (a : TypeExpr) (e : Expression) →
       (d : IsOperand ed (conversion p a e) us ws) → l + height (conversion p a e) ≤ B + 1 → Means ed B (next (conversion p a e)) ws f →
       Means ed B (behind_literal_type l next a) d.2 f
   conversion_forth l next us ws f p (named r n) e d le m = named_never _ (sym d.6)
@@ -145,8 +145,8 @@ module _ (ed : Edition) (B : ℕ) where
       inr (d.0, d.3, d.9, omega (arith, type_height_positive (struct r fs)), converted_forth l next us ws f p (struct r fs) e d le m)
 
   -- what is behind is good
-  pub literal_good : (l : ℕ) (next : Expr → State) (a : TypeExpr) (o : Lexeme) → l + 1 ≤ B → l + type_height a ≤ B →
-      ((e : Expr) → l + height e ≤ B + 1 → Good ed B (next e)) →
+  pub literal_good : (l : ℕ) (next : Expression → Reader) (a : TypeExpr) (o : Lexeme) → l + 1 ≤ B → l + type_height a ≤ B →
+      ((e : Expression) → l + height e ≤ B + 1 → Good ed B (next e)) →
       Good ed B (literal_elements l next a o)
   literal_good l next a o below le on = (
     tt,
@@ -158,8 +158,8 @@ module _ (ed : Edition) (B : ℕ) where
     ),
   )
 
-  pub converted_good : (l : ℕ) (next : Expr → State) (a : TypeExpr) (o : Lexeme) → l + 1 ≤ B → l + type_height a ≤ B →
-      ((e : Expr) → l + height e ≤ B + 1 → Good ed B (next e)) →
+  pub converted_good : (l : ℕ) (next : Expression → Reader) (a : TypeExpr) (o : Lexeme) → l + 1 ≤ B → l + type_height a ≤ B →
+      ((e : Expression) → l + height e ≤ B + 1 → Good ed B (next e)) →
       Good ed B (converted_operand l next a o)
   converted_good l next a o below le on = (
     below,
@@ -176,7 +176,7 @@ module _ (ed : Edition) (B : ℕ) where
     ),
   )
 
-  either_good : (l : ℕ) (next : Expr → State) (a : TypeExpr) → l + 1 + type_height a ≤ B + 1 → ((e : Expr) → l + height e ≤ B + 1 → Good ed B (next e)) →
+  either_good : (l : ℕ) (next : Expression → Reader) (a : TypeExpr) → l + 1 + type_height a ≤ B + 1 → ((e : Expression) → l + height e ≤ B + 1 → Good ed B (next e)) →
       Good ed B (optional opening_brace (l + 1) (literal_elements l next a) (token opening (l + 1) another (converted_operand l next a)))
   either_good l next a le on =
       let below : l + 1 ≤ B = omega (arith, type_height_positive a, le) in (
@@ -188,8 +188,8 @@ module _ (ed : Edition) (B : ℕ) where
         ),
       )
 
-  pub behind_literal_type_good : (l : ℕ) (next : Expr → State) (a : TypeExpr) → l + 1 + type_height a ≤ B + 1 →
-      ((e : Expr) → l + height e ≤ B + 1 → Good ed B (next e)) → Good ed B (behind_literal_type l next a)
+  pub behind_literal_type_good : (l : ℕ) (next : Expression → Reader) (a : TypeExpr) → l + 1 + type_height a ≤ B + 1 →
+      ((e : Expression) → l + height e ≤ B + 1 → Good ed B (next e)) → Good ed B (behind_literal_type l next a)
   behind_literal_type_good l next (named p n) le on = either_good l next (named p n) le on
   behind_literal_type_good l next (qualified p m n) le on = either_good l next (qualified p m n) le on
   behind_literal_type_good l next (array p e a) le on = either_good l next (array p e a) le on

@@ -5,23 +5,23 @@ use Rattle.go_scan.specs.declared.token.TokenKind.{TokenKind}
 use Rattle.go_scan.specs.declared.token.TokenKind.TheVariants as kinds
 use Rattle.go_ast.specs.Kinds.{same}
 use Rattle.go_ast.specs.Expected.{Expected, an_operand, another, is_left_out_at}
-use Rattle.go_ast.specs.Trees.{Name, TypeExpr, Expr, File, pack}
+use Rattle.go_ast.specs.Trees.{Name, TypeExpr, Expression, File, pack}
 use Rattle.go_ast.specs.Heights.{height}
 use Rattle.go_ast.specs.Grammar.{Lexeme, Token, name_of, comma, IsExpr, AreMoreNames, AreMoreExprs, AreExprs}
-use Rattle.go_ast.specs.Machine.{State, token, type, expr, more_names, more_exprs, optional_expr, optional_type, Move, Take, on_optional, on_expr, on_type, begins_expr, begins_type, step}
+use Rattle.go_ast.specs.Machine.{Reader, token, type, expr, more_names, more_exprs, optional_expr, optional_type, Move, Take, on_optional, on_expr, on_type, begins_expr, begins_type, parser_step}
 use Rattle.go_ast.proofs.Same.{are_same}
 use Rattle.go_ast.proofs.Means.{begins, Closes, AllFit, Means, Can, Okay, After, Kept, Comes}
 use Rattle.go_ast.proofs.Base.{false_true, either_true, left_true, right_true, after_cond, after_same, after_other, kept_cond, token_here, first_is}
 use Rattle.go_ast.proofs.Values.{all_fit_append, closes_as, ends_if}
 
 -- some expressions, the first and the others
-pub exprs_of_first : (ed : Edition) → (h : Bool) (e : Expr) (es : List Expr) (us vs ws : List Lexeme) → IsExpr ed 5 h e us vs → AreMoreExprs ed h (pack es) vs ws →
+pub exprs_of_first : (ed : Edition) → (h : Bool) (e : Expression) (es : List Expression) (us vs ws : List Lexeme) → IsExpr ed 5 h e us vs → AreMoreExprs ed h (pack es) vs ws →
     AreExprs ed h (pack (e ∷ es)) us ws
 exprs_of_first ed h e es us vs ws d m = (vs, d, m)
 
 module _ (ed : Edition) (B : ℕ) where
   -- a kind with which a state doesn't begin isn't the kind of a token that leads on from it
-  pub no_kind : (s : State) (j : TokenKind) (t : Lexeme) → begins s j ≡ false → begins s t.kind ≡ true → same j t.kind ≡ false
+  pub no_kind : (s : Reader) (j : TokenKind) (t : Lexeme) → begins s j ≡ false → begins s t.kind ≡ true → same j t.kind ≡ false
   no_kind s j t never here = by_test (same j t.kind) refl
     where
       by_test : (c : Bool) → same j t.kind ≡ c → c ≡ false
@@ -29,13 +29,13 @@ module _ (ed : Edition) (B : ℕ) where
       by_test true e = absurd (false_true (sym never ∙ ap (begins s) (sym (are_same j t.kind e)) ∙ here))
 
   -- names
-  abbrev next_name : (List Name → State) → List Name → Move
+  abbrev next_name : (List Name → Reader) → List Name → Move
   next_name next front = Take 0 (token kinds.Name 0 another (λ n. more_names (front ++ name_of n ∷ []) next))
 
-  pub more_names_back : (front : List Name) (next : List Name → State) (t : Lexeme) (us : List Lexeme) (f : File) →
-      (After ed B (step ed (next front) t) us f → Means ed B (next front) (t ∷ us) f) → After ed B (step ed (more_names front next) t) us f →
+  pub more_names_back : (front : List Name) (next : List Name → Reader) (t : Lexeme) (us : List Lexeme) (f : File) →
+      (After ed B (parser_step ed (next front) t) us f → Means ed B (next front) (t ∷ us) f) → After ed B (parser_step ed (more_names front next) t) us f →
       Means ed B (more_names front next) (t ∷ us) f
-  more_names_back front next t us f back after = elim (after_cond ed B (same comma t.kind) (next_name next front) (step ed (next front) t) us f after) [
+  more_names_back front next t us f back after = elim (after_cond ed B (same comma t.kind) (next_name next front) (parser_step ed (next front) t) us f after) [
     | inl g ↦ (let m = g.1.1 in
         let r = m.4 in (
           name_of m.0 ∷ r.0,
@@ -46,20 +46,20 @@ module _ (ed : Edition) (B : ℕ) where
     | inr g ↦ ([], t ∷ us, refl, subst (λ x. Means ed B (next x) (t ∷ us) f) (sym (append-nil front)) (back g.1))
   ]
 
-  pub more_names_forth : (front : List Name) (next : List Name → State) (t : Lexeme) (us : List Lexeme) (f : File) → Okay ed B (more_names front next) →
-      (Means ed B (next front) (t ∷ us) f → begins (next front) t.kind ≡ true) → (Means ed B (next front) (t ∷ us) f → After ed B (step ed (next front) t) us f) →
-      Means ed B (more_names front next) (t ∷ us) f → After ed B (step ed (more_names front next) t) us f
+  pub more_names_forth : (front : List Name) (next : List Name → Reader) (t : Lexeme) (us : List Lexeme) (f : File) → Okay ed B (more_names front next) →
+      (Means ed B (next front) (t ∷ us) f → begins (next front) t.kind ≡ true) → (Means ed B (next front) (t ∷ us) f → After ed B (parser_step ed (next front) t) us f) →
+      Means ed B (more_names front next) (t ∷ us) f → After ed B (parser_step ed (more_names front next) t) us f
   more_names_forth front next t us f okay first forth m = by_names m.0 m.1 m.2 m.3
     where
       by_names : (ns : List Name) (ws : List Lexeme) → AreMoreNames ns (t ∷ us) ws → Means ed B (next (front ++ ns)) ws f →
-          After ed B (step ed (more_names front next) t) us f
+          After ed B (parser_step ed (more_names front next) t) us f
       by_names [] ws are m =
           let on : Means ed B (next front) (t ∷ us) f = subst (λ x. Means ed B (next x) (t ∷ us) f) (append-nil front)
           (subst (λ xs. Means ed B (next (front ++ [])) xs f) (sym are) m) in
-          after_other ed B comma t (next_name next front) (step ed (next front) t) us f (no_kind (next front) comma t (okay.1 front) (first on)) (forth on)
+          after_other ed B comma t (next_name next front) (parser_step ed (next front) t) us f (no_kind (next front) comma t (okay.1 front) (first on)) (forth on)
       by_names (n ∷ ns) ws are m =
           let c = first_is comma t are.0 us are.2 are.4 in
-          after_same ed B comma t (next_name next front) (step ed (next front) t) us f c.2 (
+          after_same ed B comma t (next_name next front) (parser_step ed (next front) t) us f c.2 (
             omega arith,
             (
               are.1,
@@ -76,12 +76,12 @@ module _ (ed : Edition) (B : ℕ) where
             ),
           )
 
-  pub more_names_kept : (front : List Name) (next : List Name → State) (t : Lexeme) → Okay ed B (more_names front next) → Kept ed B (step ed (next front) t) →
-      Kept ed B (step ed (more_names front next) t)
+  pub more_names_kept : (front : List Name) (next : List Name → Reader) (t : Lexeme) → Okay ed B (more_names front next) → Kept ed B (parser_step ed (next front) t) →
+      Kept ed B (parser_step ed (more_names front next) t)
   more_names_kept front next t okay kept =
-      kept_cond ed B (same comma t.kind) (next_name next front) (step ed (next front) t) (λ _ need. (omega arith, λ n _ _. (tt, okay))) (λ _. kept)
+      kept_cond ed B (same comma t.kind) (next_name next front) (parser_step ed (next front) t) (λ _ need. (omega arith, λ n _ _. (tt, okay))) (λ _. kept)
 
-  pub more_names_first : (front : List Name) (next : List Name → State) (t : Lexeme) (us : List Lexeme) (f : File) →
+  pub more_names_first : (front : List Name) (next : List Name → Reader) (t : Lexeme) (us : List Lexeme) (f : File) →
       (Means ed B (next front) (t ∷ us) f → begins (next front) t.kind ≡ true) → Means ed B (more_names front next) (t ∷ us) f →
       begins (more_names front next) t.kind ≡ true
   more_names_first front next t us f first m = by_names m.0 m.1 m.2 m.3
@@ -93,17 +93,17 @@ module _ (ed : Edition) (B : ℕ) where
           (first (subst (λ x. Means ed B (next x) (t ∷ us) f) (append-nil front) (subst (λ xs. Means ed B (next (front ++ [])) xs f) (sym are) m)))
       by_names (n ∷ ns) ws are m = left_true (same comma t.kind) (begins (next front) t.kind) (ap (same comma) (first_is comma t are.0 us are.2 are.4).2)
 
-  pub more_names_comes : (front : List Name) (next : List Name → State) → Comes ed B (next front) → Comes ed B (more_names front next)
+  pub more_names_comes : (front : List Name) (next : List Name → Reader) → Comes ed B (next front) → Comes ed B (more_names front next)
   more_names_comes front next c = (c.0, c.1, ([], c.0, refl, subst (λ x. Means ed B (next x) c.0 c.1) (sym (append-nil front)) c.2))
 
   -- expressions
-  abbrev next_expr : Bool → ℕ → (List Expr → State) → List Expr → Move
+  abbrev next_expr : Bool → ℕ → (List Expression → Reader) → List Expression → Move
   next_expr h l next front = Take 0 (expr 5 h l an_operand (λ e. more_exprs h l (front ++ e ∷ []) next))
 
-  pub more_exprs_back : (h : Bool) (l : ℕ) (front : List Expr) (next : List Expr → State) (t : Lexeme) (us : List Lexeme) (f : File) →
-      (After ed B (step ed (next front) t) us f → Means ed B (next front) (t ∷ us) f) → After ed B (step ed (more_exprs h l front next) t) us f →
+  pub more_exprs_back : (h : Bool) (l : ℕ) (front : List Expression) (next : List Expression → Reader) (t : Lexeme) (us : List Lexeme) (f : File) →
+      (After ed B (parser_step ed (next front) t) us f → Means ed B (next front) (t ∷ us) f) → After ed B (parser_step ed (more_exprs h l front next) t) us f →
       Means ed B (more_exprs h l front next) (t ∷ us) f
-  more_exprs_back h l front next t us f back after = elim (after_cond ed B (same comma t.kind) (next_expr h l next front) (step ed (next front) t) us f after) [
+  more_exprs_back h l front next t us f back after = elim (after_cond ed B (same comma t.kind) (next_expr h l next front) (parser_step ed (next front) t) us f after) [
     | inl g ↦ (let m = g.1.1 in
         let r = m.4 in (
           m.0 ∷ r.0,
@@ -115,21 +115,21 @@ module _ (ed : Edition) (B : ℕ) where
     | inr g ↦ ([], t ∷ us, refl, tt, subst (λ x. Means ed B (next x) (t ∷ us) f) (sym (append-nil front)) (back g.1))
   ]
 
-  pub more_exprs_forth : (h : Bool) (l : ℕ) (front : List Expr) (next : List Expr → State) (t : Lexeme) (us : List Lexeme) (f : File) →
+  pub more_exprs_forth : (h : Bool) (l : ℕ) (front : List Expression) (next : List Expression → Reader) (t : Lexeme) (us : List Lexeme) (f : File) →
       Okay ed B (more_exprs h l front next) →
-      (Means ed B (next front) (t ∷ us) f → begins (next front) t.kind ≡ true) → (Means ed B (next front) (t ∷ us) f → After ed B (step ed (next front) t) us f) →
-      Means ed B (more_exprs h l front next) (t ∷ us) f → After ed B (step ed (more_exprs h l front next) t) us f
+      (Means ed B (next front) (t ∷ us) f → begins (next front) t.kind ≡ true) → (Means ed B (next front) (t ∷ us) f → After ed B (parser_step ed (next front) t) us f) →
+      Means ed B (more_exprs h l front next) (t ∷ us) f → After ed B (parser_step ed (more_exprs h l front next) t) us f
   more_exprs_forth h l front next t us f okay first forth m = by_exprs m.0 m.1 m.2 m.3 m.4
     where
-      by_exprs : (es : List Expr) (ws : List Lexeme) → AreMoreExprs ed h (pack es) (t ∷ us) ws → AllFit ed B height l es →
-          Means ed B (next (front ++ es)) ws f → After ed B (step ed (more_exprs h l front next) t) us f
+      by_exprs : (es : List Expression) (ws : List Lexeme) → AreMoreExprs ed h (pack es) (t ∷ us) ws → AllFit ed B height l es →
+          Means ed B (next (front ++ es)) ws f → After ed B (parser_step ed (more_exprs h l front next) t) us f
       by_exprs [] ws are fit m =
           let on : Means ed B (next front) (t ∷ us) f = subst (λ x. Means ed B (next x) (t ∷ us) f) (append-nil front)
           (subst (λ xs. Means ed B (next (front ++ [])) xs f) (sym are) m) in
-          after_other ed B comma t (next_expr h l next front) (step ed (next front) t) us f (no_kind (next front) comma t (okay.3 front) (first on)) (forth on)
+          after_other ed B comma t (next_expr h l next front) (parser_step ed (next front) t) us f (no_kind (next front) comma t (okay.3 front) (first on)) (forth on)
       by_exprs (e ∷ es) ws are fit m =
           let c = first_is comma t are.0 us are.1 are.3 in
-          after_same ed B comma t (next_expr h l next front) (step ed (next front) t) us f c.2 (
+          after_same ed B comma t (next_expr h l next front) (parser_step ed (next front) t) us f c.2 (
             omega arith,
             (
               e,
@@ -141,18 +141,18 @@ module _ (ed : Edition) (B : ℕ) where
           )
 
   -- what may be behind more expressions
-  more_closes : (h : Bool) (l : ℕ) (front : List Expr) (next : List Expr → State) (k : TokenKind) →
-      ((es : List Expr) (k : TokenKind) → begins (next es) k ≡ true → Closes h k) →
+  more_closes : (h : Bool) (l : ℕ) (front : List Expression) (next : List Expression → Reader) (k : TokenKind) →
+      ((es : List Expression) (k : TokenKind) → begins (next es) k ≡ true → Closes h k) →
       begins (more_exprs h l front next) k ≡ true → Closes h k
   more_closes h l front next k closes b = elim (either_true (same comma k) (begins (next front) k) b) [
     | inl c ↦ closes_as h comma k c (refl, refl) (refl, refl)
     | inr c ↦ closes front k c
   ]
 
-  pub more_exprs_kept : (h : Bool) (l : ℕ) (front : List Expr) (next : List Expr → State) (t : Lexeme) → Okay ed B (more_exprs h l front next) →
-      Kept ed B (step ed (next front) t) →
-      Kept ed B (step ed (more_exprs h l front next) t)
-  more_exprs_kept h l front next t okay kept = kept_cond ed B (same comma t.kind) (next_expr h l next front) (step ed (next front) t) (λ _ need. (
+  pub more_exprs_kept : (h : Bool) (l : ℕ) (front : List Expression) (next : List Expression → Reader) (t : Lexeme) → Okay ed B (more_exprs h l front next) →
+      Kept ed B (parser_step ed (next front) t) →
+      Kept ed B (parser_step ed (more_exprs h l front next) t)
+  more_exprs_kept h l front next t okay kept = kept_cond ed B (same comma t.kind) (next_expr h l next front) (parser_step ed (next front) t) (λ _ need. (
     okay.0,
     (
       (λ e fit. (tt, (okay.0, all_fit_append ed B height l front (e ∷ []) okay.1 (fit, tt), okay.2, okay.3, okay.4))),
@@ -160,19 +160,19 @@ module _ (ed : Edition) (B : ℕ) where
     ),
   )) (λ _. kept)
 
-  pub more_exprs_first : (h : Bool) (l : ℕ) (front : List Expr) (next : List Expr → State) (t : Lexeme) (us : List Lexeme) (f : File) →
+  pub more_exprs_first : (h : Bool) (l : ℕ) (front : List Expression) (next : List Expression → Reader) (t : Lexeme) (us : List Lexeme) (f : File) →
       (Means ed B (next front) (t ∷ us) f → begins (next front) t.kind ≡ true) → Means ed B (more_exprs h l front next) (t ∷ us) f →
       begins (more_exprs h l front next) t.kind ≡ true
   more_exprs_first h l front next t us f first m = by_exprs m.0 m.1 m.2 m.4
     where
-      by_exprs : (es : List Expr) (ws : List Lexeme) → AreMoreExprs ed h (pack es) (t ∷ us) ws → Means ed B (next (front ++ es)) ws f →
+      by_exprs : (es : List Expression) (ws : List Lexeme) → AreMoreExprs ed h (pack es) (t ∷ us) ws → Means ed B (next (front ++ es)) ws f →
           begins (more_exprs h l front next) t.kind ≡ true
       by_exprs [] ws are m =
           right_true (same comma t.kind) (begins (next front) t.kind)
           (first (subst (λ x. Means ed B (next x) (t ∷ us) f) (append-nil front) (subst (λ xs. Means ed B (next (front ++ [])) xs f) (sym are) m)))
       by_exprs (e ∷ es) ws are m = left_true (same comma t.kind) (begins (next front) t.kind) (ap (same comma) (first_is comma t are.0 us are.1 are.3).2)
 
-  pub more_exprs_comes : (h : Bool) (l : ℕ) (front : List Expr) (next : List Expr → State) → Comes ed B (next front) → Comes ed B (more_exprs h l front next)
+  pub more_exprs_comes : (h : Bool) (l : ℕ) (front : List Expression) (next : List Expression → Reader) → Comes ed B (next front) → Comes ed B (more_exprs h l front next)
   more_exprs_comes h l front next c = (c.0, c.1, ([], c.0, refl, tt, subst (λ x. Means ed B (next x) c.0 c.1) (sym (append-nil front)) c.2))
 
   -- what may be missing
@@ -205,38 +205,38 @@ module _ (ed : Edition) (B : ℕ) where
   not_there true rest f e = absurd (false_true (sym (f refl) ∙ e))
 
   -- an expression; on_expr's lemmas are arguments
-  pub optional_expr_back : (h : Bool) (l : ℕ) (x : Expected) (some : Expr → State) (none : State) (t : Lexeme) (us : List Lexeme) (f : File) →
-      (After ed B (on_expr 5 h l x some t) us f → Means ed B (expr 5 h l x some) (t ∷ us) f) → (After ed B (step ed none t) us f → Means ed B none (t ∷ us) f) →
-      After ed B (step ed (optional_expr h l x some none) t) us f → Means ed B (optional_expr h l x some none) (t ∷ us) f
+  pub optional_expr_back : (h : Bool) (l : ℕ) (x : Expected) (some : Expression → Reader) (none : Reader) (t : Lexeme) (us : List Lexeme) (f : File) →
+      (After ed B (on_expr 5 h l x some t) us f → Means ed B (expr 5 h l x some) (t ∷ us) f) → (After ed B (parser_step ed none t) us f → Means ed B none (t ∷ us) f) →
+      After ed B (parser_step ed (optional_expr h l x some none) t) us f → Means ed B (optional_expr h l x some none) (t ∷ us) f
   optional_expr_back h l x some none t us f there missing after =
-      elim (after_optional (begins_expr t.kind) (is_left_out_at x t.kind) x (on_expr 5 h l x some t) (step ed none t) us f after) [
+      elim (after_optional (begins_expr t.kind) (is_left_out_at x t.kind) x (on_expr 5 h l x some t) (parser_step ed none t) us f after) [
         | inl a ↦ inl (there a.1)
         | inr a ↦ inr (missing a)
       ]
 
-  pub optional_expr_forth : (h : Bool) (l : ℕ) (x : Expected) (some : Expr → State) (none : State) (t : Lexeme) (us : List Lexeme) (f : File) →
+  pub optional_expr_forth : (h : Bool) (l : ℕ) (x : Expected) (some : Expression → Reader) (none : Reader) (t : Lexeme) (us : List Lexeme) (f : File) →
       Okay ed B (optional_expr h l x some none) →
       (Means ed B (expr 5 h l x some) (t ∷ us) f → begins_expr t.kind ≡ true) →
       (Means ed B (expr 5 h l x some) (t ∷ us) f → After ed B (on_expr 5 h l x some t) us f) →
-      (Means ed B none (t ∷ us) f → begins none t.kind ≡ true) → (Means ed B none (t ∷ us) f → After ed B (step ed none t) us f) →
-      Means ed B (optional_expr h l x some none) (t ∷ us) f → After ed B (step ed (optional_expr h l x some none) t) us f
+      (Means ed B none (t ∷ us) f → begins none t.kind ≡ true) → (Means ed B none (t ∷ us) f → After ed B (parser_step ed none t) us f) →
+      Means ed B (optional_expr h l x some none) (t ∷ us) f → After ed B (parser_step ed (optional_expr h l x some none) t) us f
   optional_expr_forth h l x some none t us f okay first there none_first missing m = elim m [
-    | inl a ↦ there_after (begins_expr t.kind) (is_left_out_at x t.kind) x (on_expr 5 h l x some t) (step ed none t) us f (first a) (there a)
-    | inr a ↦ missing_after (begins_expr t.kind) (is_left_out_at x t.kind) x (on_expr 5 h l x some t) (step ed none t) us f
+    | inl a ↦ there_after (begins_expr t.kind) (is_left_out_at x t.kind) x (on_expr 5 h l x some t) (parser_step ed none t) us f (first a) (there a)
+    | inr a ↦ missing_after (begins_expr t.kind) (is_left_out_at x t.kind) x (on_expr 5 h l x some t) (parser_step ed none t) us f
         (not_there (begins_expr t.kind || is_left_out_at x t.kind) (begins none t.kind) (okay.3 t.kind) (none_first a)) (missing a)
   ]
 
-  pub optional_expr_kept : (h : Bool) (l : ℕ) (x : Expected) (some : Expr → State) (none : State) (t : Lexeme) →
-      Kept ed B (on_expr 5 h l x some t) → Kept ed B (step ed none t) → Kept ed B (step ed (optional_expr h l x some none) t)
+  pub optional_expr_kept : (h : Bool) (l : ℕ) (x : Expected) (some : Expression → Reader) (none : Reader) (t : Lexeme) →
+      Kept ed B (on_expr 5 h l x some t) → Kept ed B (parser_step ed none t) → Kept ed B (parser_step ed (optional_expr h l x some none) t)
   optional_expr_kept h l x some none t there missing =
-      kept_optional (begins_expr t.kind) (is_left_out_at x t.kind) x (on_expr 5 h l x some t) (step ed none t) there missing
+      kept_optional (begins_expr t.kind) (is_left_out_at x t.kind) x (on_expr 5 h l x some t) (parser_step ed none t) there missing
 
   -- what is good behind the optional expression is so behind an expression
-  pub optional_expr_okay : (h : Bool) (l : ℕ) (x : Expected) (some : Expr → State) (none : State) → Okay ed B (optional_expr h l x some none) →
+  pub optional_expr_okay : (h : Bool) (l : ℕ) (x : Expected) (some : Expression → Reader) (none : Reader) → Okay ed B (optional_expr h l x some none) →
       Okay ed B (expr 5 h l x some)
   optional_expr_okay h l x some none okay = (okay.0, okay.1)
 
-  pub optional_expr_first : (h : Bool) (l : ℕ) (x : Expected) (some : Expr → State) (none : State) (t : Lexeme) (us : List Lexeme) (f : File) →
+  pub optional_expr_first : (h : Bool) (l : ℕ) (x : Expected) (some : Expression → Reader) (none : Reader) (t : Lexeme) (us : List Lexeme) (f : File) →
       (Means ed B (expr 5 h l x some) (t ∷ us) f → begins_expr t.kind ≡ true) → (Means ed B none (t ∷ us) f → begins none t.kind ≡ true) →
       Means ed B (optional_expr h l x some none) (t ∷ us) f → begins (optional_expr h l x some none) t.kind ≡ true
   optional_expr_first h l x some none t us f first none_first m = elim m [
@@ -244,7 +244,7 @@ module _ (ed : Edition) (B : ℕ) where
     | inr a ↦ right_true (begins_expr t.kind) (begins none t.kind) (none_first a)
   ]
 
-  pub optional_expr_comes : (h : Bool) (l : ℕ) (x : Expected) (some : Expr → State) (none : State) → Can ed B (optional_expr h l x some none) →
+  pub optional_expr_comes : (h : Bool) (l : ℕ) (x : Expected) (some : Expression → Reader) (none : Reader) → Can ed B (optional_expr h l x some none) →
       (l ≤ B → Comes ed B (expr 5 h l x some)) →
       (Can ed B none → Comes ed B none) → Comes ed B (optional_expr h l x some none)
   optional_expr_comes h l x some none can there missing = elim can [
@@ -253,36 +253,36 @@ module _ (ed : Edition) (B : ℕ) where
   ]
 
   -- a type; on_type's lemmas are arguments
-  pub optional_type_back : (l : ℕ) (x : Expected) (some : TypeExpr → State) (none : State) (t : Lexeme) (us : List Lexeme) (f : File) →
-      (After ed B (on_type l x some t) us f → Means ed B (type l x some) (t ∷ us) f) → (After ed B (step ed none t) us f → Means ed B none (t ∷ us) f) →
-      After ed B (step ed (optional_type l x some none) t) us f → Means ed B (optional_type l x some none) (t ∷ us) f
+  pub optional_type_back : (l : ℕ) (x : Expected) (some : TypeExpr → Reader) (none : Reader) (t : Lexeme) (us : List Lexeme) (f : File) →
+      (After ed B (on_type l x some t) us f → Means ed B (type l x some) (t ∷ us) f) → (After ed B (parser_step ed none t) us f → Means ed B none (t ∷ us) f) →
+      After ed B (parser_step ed (optional_type l x some none) t) us f → Means ed B (optional_type l x some none) (t ∷ us) f
   optional_type_back l x some none t us f there missing after =
-      elim (after_optional (begins_type t.kind) (is_left_out_at x t.kind) x (on_type l x some t) (step ed none t) us f after) [
+      elim (after_optional (begins_type t.kind) (is_left_out_at x t.kind) x (on_type l x some t) (parser_step ed none t) us f after) [
         | inl a ↦ inl (there a.1)
         | inr a ↦ inr (missing a)
       ]
 
-  pub optional_type_forth : (l : ℕ) (x : Expected) (some : TypeExpr → State) (none : State) (t : Lexeme) (us : List Lexeme) (f : File) →
+  pub optional_type_forth : (l : ℕ) (x : Expected) (some : TypeExpr → Reader) (none : Reader) (t : Lexeme) (us : List Lexeme) (f : File) →
       Okay ed B (optional_type l x some none) →
       (Means ed B (type l x some) (t ∷ us) f → begins_type t.kind ≡ true) → (Means ed B (type l x some) (t ∷ us) f → After ed B (on_type l x some t) us f) →
-      (Means ed B none (t ∷ us) f → begins none t.kind ≡ true) → (Means ed B none (t ∷ us) f → After ed B (step ed none t) us f) →
-      Means ed B (optional_type l x some none) (t ∷ us) f → After ed B (step ed (optional_type l x some none) t) us f
+      (Means ed B none (t ∷ us) f → begins none t.kind ≡ true) → (Means ed B none (t ∷ us) f → After ed B (parser_step ed none t) us f) →
+      Means ed B (optional_type l x some none) (t ∷ us) f → After ed B (parser_step ed (optional_type l x some none) t) us f
   optional_type_forth l x some none t us f okay first there none_first missing m = elim m [
-    | inl a ↦ there_after (begins_type t.kind) (is_left_out_at x t.kind) x (on_type l x some t) (step ed none t) us f (first a) (there a)
-    | inr a ↦ missing_after (begins_type t.kind) (is_left_out_at x t.kind) x (on_type l x some t) (step ed none t) us f
+    | inl a ↦ there_after (begins_type t.kind) (is_left_out_at x t.kind) x (on_type l x some t) (parser_step ed none t) us f (first a) (there a)
+    | inr a ↦ missing_after (begins_type t.kind) (is_left_out_at x t.kind) x (on_type l x some t) (parser_step ed none t) us f
         (not_there (begins_type t.kind || is_left_out_at x t.kind) (begins none t.kind) (okay.3 t.kind) (none_first a)) (missing a)
   ]
 
-  pub optional_type_kept : (l : ℕ) (x : Expected) (some : TypeExpr → State) (none : State) (t : Lexeme) →
-      Kept ed B (on_type l x some t) → Kept ed B (step ed none t) → Kept ed B (step ed (optional_type l x some none) t)
+  pub optional_type_kept : (l : ℕ) (x : Expected) (some : TypeExpr → Reader) (none : Reader) (t : Lexeme) →
+      Kept ed B (on_type l x some t) → Kept ed B (parser_step ed none t) → Kept ed B (parser_step ed (optional_type l x some none) t)
   optional_type_kept l x some none t there missing =
-      kept_optional (begins_type t.kind) (is_left_out_at x t.kind) x (on_type l x some t) (step ed none t) there missing
+      kept_optional (begins_type t.kind) (is_left_out_at x t.kind) x (on_type l x some t) (parser_step ed none t) there missing
 
-  pub optional_type_okay : (l : ℕ) (x : Expected) (some : TypeExpr → State) (none : State) → Okay ed B (optional_type l x some none) →
+  pub optional_type_okay : (l : ℕ) (x : Expected) (some : TypeExpr → Reader) (none : Reader) → Okay ed B (optional_type l x some none) →
       Okay ed B (type l x some)
   optional_type_okay l x some none okay = (okay.0, okay.1)
 
-  pub optional_type_first : (l : ℕ) (x : Expected) (some : TypeExpr → State) (none : State) (t : Lexeme) (us : List Lexeme) (f : File) →
+  pub optional_type_first : (l : ℕ) (x : Expected) (some : TypeExpr → Reader) (none : Reader) (t : Lexeme) (us : List Lexeme) (f : File) →
       (Means ed B (type l x some) (t ∷ us) f → begins_type t.kind ≡ true) → (Means ed B none (t ∷ us) f → begins none t.kind ≡ true) →
       Means ed B (optional_type l x some none) (t ∷ us) f → begins (optional_type l x some none) t.kind ≡ true
   optional_type_first l x some none t us f first none_first m = elim m [
@@ -290,7 +290,7 @@ module _ (ed : Edition) (B : ℕ) where
     | inr a ↦ right_true (begins_type t.kind) (begins none t.kind) (none_first a)
   ]
 
-  pub optional_type_comes : (l : ℕ) (x : Expected) (some : TypeExpr → State) (none : State) → Can ed B (optional_type l x some none) →
+  pub optional_type_comes : (l : ℕ) (x : Expected) (some : TypeExpr → Reader) (none : Reader) → Can ed B (optional_type l x some none) →
       (l ≤ B → Comes ed B (type l x some)) →
       (Can ed B none → Comes ed B none) → Comes ed B (optional_type l x some none)
   optional_type_comes l x some none can there missing = elim can [

@@ -3,7 +3,7 @@ use Rattle.std.proofs.Common.{◌≡◌, ◌⊎◌, inl, inr, Bool, false, List,
 use Rattle.go_text.specs.declared.edition.Edition.{Edition}
 use Rattle.go_scan.specs.declared.token.TokenKind.TheVariants as kinds
 use Rattle.go_scan.specs.declared.keyword.Keyword.TheVariants as keywords
-use Rattle.go_ast.specs.Trees.{Name, Exprs, no_exprs, some_exprs, Element, expression_element, value_element, Simple, call_statement, increment, decrement, assignment, operator_assignment, short_var_decl, Decl, constants, variables, types, Stmt, empty, declaration, simple, return, break, continue, fallthrough, block_statement, if_statement, for_statement, range_statement, switch_statement, Block, block, If, conditional, ImportSpec}
+use Rattle.go_ast.specs.Trees.{Name, ExpressionList, no_exprs, some_exprs, Element, expression_element, value_element, Simple, call_statement, increment, decrement, assignment, operator_assignment, short_var_decl, Decl, constants, variables, types, Statement, empty, declaration, simple, return, break, continue, fallthrough, block_statement, if_statement, for_statement, range_statement, switch_statement, Block, block, If, conditional, ImportSpec}
 use Rattle.go_ast.specs.Grammar.{Lexeme, Token, name_of, opening_brace, semicolon, IsKey, IsElement, AreExprs, IsSimple, IsDecl, IsBlock, IsIf, IsStmt}
 use Rattle.go_ast.specs.Machine.{ListKind, fields, arguments, elements, const_specs, var_specs, type_specs, import_specs, statements, parameters, results, Item, keyword}
 use Rattle.go_ast.proofs.Means.{IsItem}
@@ -12,7 +12,7 @@ use Rattle.go_ast.proofs.Types.{type_never}
 use Rattle.go_ast.proofs.Operands.{expr_never}
 use Rattle.go_ast.proofs.Specs.{names_never}
 
-pub exprs_never : (ed : Edition) → (h : Bool) (es : Exprs) (ws : List Lexeme) → AreExprs ed h es [] ws → ⊥
+pub exprs_never : (ed : Edition) → (h : Bool) (es : ExpressionList) (ws : List Lexeme) → AreExprs ed h es [] ws → ⊥
 exprs_never ed h no_exprs ws d = absurd d
 exprs_never ed h (some_exprs e es) ws d = expr_never ed 5 h e d.0 d.1
 
@@ -35,7 +35,7 @@ block_never ed (block p ss q) ws d = no_token opening_brace d.0 d.2 d.4
 pub if_never : (ed : Edition) → (i : If) (ws : List Lexeme) → IsIf ed i [] ws → ⊥
 if_never ed (conditional p i e b r) ws d = no_token (keyword keywords.If) d.0 d.1 d.5
 
-pub stmt_never : (ed : Edition) → (s : Stmt) (ws : List Lexeme) → IsStmt ed s [] ws → ⊥
+pub stmt_never : (ed : Edition) → (s : Statement) (ws : List Lexeme) → IsStmt ed s [] ws → ⊥
 stmt_never ed (empty p) ws d = no_token semicolon d.0 d.1 d.2
 stmt_never ed (declaration p x) ws d = decl_never ed x ws d.0
 stmt_never ed (simple p s) ws d = simple_never ed false s ws d.0

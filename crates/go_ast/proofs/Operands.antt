@@ -9,11 +9,11 @@ use Rattle.go_ast.specs.Kinds.{same}
 use Rattle.go_ast.specs.Literals.{string_value, rune_value}
 use Rattle.go_ast.specs.Operators.{unary_of, binary_of}
 use Rattle.go_ast.specs.Expected.{Expected, another}
-use Rattle.go_ast.specs.Trees.{UnaryOperator, TypeExpr, named, qualified, array, slice, struct, Expr, name, integer, rune, string, parenthesized, composite_lit, conversion, selector, index, cut, call, type_operand, unary, binary, File}
+use Rattle.go_ast.specs.Trees.{UnaryOperator, TypeExpr, named, qualified, array, slice, struct, Expression, name, integer, rune, string, parenthesized, composite_lit, conversion, selector, index, cut, call, type_operand, unary, binary, File}
 use Rattle.go_ast.specs.Heights.{height, type_height}
 use Rattle.go_ast.specs.Grammar.{Lexeme, opening, closing, opening_bracket, IsType, IsExpr, is_named}
 use Rattle.go_ast.specs.Operators.{tighter}
-use Rattle.go_ast.specs.Machine.{State, expr, type, Move, Take, Fail, cond, keyword, begins_type, begins_expr, behind_bracket, behind_struct, tails, behind_operand, behind_opening, behind_literal_type, on_unary, on_expr, step}
+use Rattle.go_ast.specs.Machine.{Reader, expr, type, Move, Take, Fail, cond, keyword, begins_type, begins_expr, behind_bracket, behind_struct, tails, behind_operand, behind_opening, behind_literal_type, on_unary, on_expr, parser_step}
 use Rattle.go_ast.proofs.Valued.{rune_means, rune_computed, string_means, string_computed}
 use Rattle.go_ast.proofs.Same.{are_same}
 use Rattle.go_ast.proofs.Means.{is_tail, begins, Means, Okay, Good, After, Kept, Comes}
@@ -50,7 +50,7 @@ unary_begins _ op e = no_operator _ op e
 first_kind : (t u : Lexeme) (us vs : List Lexeme) → t ∷ us ≡ u ∷ vs → t.kind ≡ u.kind
 first_kind t u us vs e = let same_token : t ≡ u = cc (e) in ap (λ (x : Lexeme). x.kind) same_token
 
-pub expr_first : (ed : Edition) → (n : ℕ) (h : Bool) (e : Expr) (t : Lexeme) (us ws : List Lexeme) → IsExpr ed n h e (t ∷ us) ws → begins_expr t.kind ≡ true
+pub expr_first : (ed : Edition) → (n : ℕ) (h : Bool) (e : Expression) (t : Lexeme) (us ws : List Lexeme) → IsExpr ed n h e (t ∷ us) ws → begins_expr t.kind ≡ true
 expr_first ed n h (name p text) t us ws d = ap begins_expr (first_is kinds.Name t d.0 us ws d.1).2
 expr_first ed n h (integer p text) t us ws d = ap begins_expr (first_is kinds.Integer t d.0 us ws d.1).2
 expr_first ed n h (rune p value) t us ws d = ap begins_expr (first_is kinds.Rune t d.0 us ws d.1).2
@@ -66,7 +66,7 @@ expr_first ed n h (call p e es) t us ws d = expr_first ed 0 h e t us d.2 d.7
 expr_first ed n h (unary p op e) t us ws d = ap begins_expr (first_kind t d.0 us d.1 d.2) ∙ unary_begins d.0.kind op d.3
 expr_first ed n h (binary p op a b) t us ws d = expr_first ed (suc (tighter op)) h a t us d.1 d.5
 
-pub expr_never : (ed : Edition) → (n : ℕ) (h : Bool) (e : Expr) (ws : List Lexeme) → IsExpr ed n h e [] ws → ⊥
+pub expr_never : (ed : Edition) → (n : ℕ) (h : Bool) (e : Expression) (ws : List Lexeme) → IsExpr ed n h e [] ws → ⊥
 expr_never ed n h (name p text) ws d = no_token kinds.Name d.0 ws d.1
 expr_never ed n h (integer p text) ws d = no_token kinds.Integer d.0 ws d.1
 expr_never ed n h (rune p value) ws d = no_token kinds.Rune d.0 ws d.1
@@ -84,29 +84,29 @@ expr_never ed n h (binary p op a b) ws d = expr_never ed (suc (tighter op)) h a 
 
 module _ (ed : Edition) (B : ℕ) where
   -- an expression's tokens, that it fits, and what is behind it
-  abbrev pub Expressed : ℕ → Bool → ℕ → (Expr → State) → List Lexeme → File → Type 0
-  Expressed n h l next us f = (e : Expr) × (ws : List Lexeme) × IsExpr ed n h e us ws × (l + height e ≤ B + 1) × Means ed B (next e) ws f
+  abbrev pub Expressed : ℕ → Bool → ℕ → (Expression → Reader) → List Lexeme → File → Type 0
+  Expressed n h l next us f = (e : Expression) × (ws : List Lexeme) × IsExpr ed n h e us ws × (l + height e ≤ B + 1) × Means ed B (next e) ws f
 
   -- from an operand on
-  pub operand_back : (n : ℕ) (h : Bool) (l : ℕ) (next : Expr → State) (a : Expr) (us vs : List Lexeme) (f : File) → IsOperand ed a us vs → l + height a ≤ B + 1 →
+  pub operand_back : (n : ℕ) (h : Bool) (l : ℕ) (next : Expression → Reader) (a : Expression) (us vs : List Lexeme) (f : File) → IsOperand ed a us vs → l + height a ≤ B + 1 →
       Means ed B (behind_operand n h l next a) vs f → Expressed n h l next us f
   operand_back n h l next a us vs f d le m =
       let g = behind_operand_back ed B n h l next a vs f m in
       (g.0, g.1, from_operand ed n h a g.0 us vs g.1 d g.2, g.3, g.4)
 
-  type_operand_back : (n : ℕ) (h : Bool) (l : ℕ) (next : Expr → State) (a : TypeExpr) (us vs : List Lexeme) (f : File) → is_named a ≡ false → IsType ed a us vs →
+  type_operand_back : (n : ℕ) (h : Bool) (l : ℕ) (next : Expression → Reader) (a : TypeExpr) (us vs : List Lexeme) (f : File) → is_named a ≡ false → IsType ed a us vs →
       l + 1 + type_height a ≤ B + 1 → Means ed B (behind_literal_type l (behind_operand n h l next) a) vs f → Expressed n h l next us f
   type_operand_back n h l next a us vs f unnamed d le m =
       let o = behind_literal_type_back ed B l (behind_operand n h l next) a us vs f unnamed d le m in
       operand_back n h l next o.0 us o.1 f o.2 o.3 o.4
 
-  pub behind_opening_back : (n : ℕ) (h : Bool) (l : ℕ) (next : Expr → State) (t : Lexeme) (us : List Lexeme) (f : File) → t.kind ≡ opening →
+  pub behind_opening_back : (n : ℕ) (h : Bool) (l : ℕ) (next : Expression → Reader) (t : Lexeme) (us : List Lexeme) (f : File) → t.kind ≡ opening →
       Means ed B (behind_opening n h l next t) us f → Expressed n h l next (t ∷ us) f
   behind_opening_back n h l next t us f e m =
       let c = m.4 in
       operand_back n h l next (parenthesized t.place m.0) (t ∷ us) c.1 f (t, c.0, us, m.1, token_here opening t us e, refl, m.2, c.2) (omega (arith, m.3)) c.4
 
-  on_unary_back : (n : ℕ) (h : Bool) (l : ℕ) (x : Expected) (next : Expr → State) (t : Lexeme) (us : List Lexeme) (f : File) (o : Option UnaryOperator) →
+  on_unary_back : (n : ℕ) (h : Bool) (l : ℕ) (x : Expected) (next : Expression → Reader) (t : Lexeme) (us : List Lexeme) (f : File) (o : Option UnaryOperator) →
       unary_of t.kind ≡ o →
       After ed B (on_unary n h l next t (Fail x) o) us f → Expressed n h l next (t ∷ us) f
   on_unary_back n h l x next t us f None e a = absurd a
@@ -116,7 +116,7 @@ module _ (ed : Edition) (B : ℕ) where
       let g = tails_back ed B n h l next u m.1 f (omega (arith, m.3)) m.4 in
       (g.0, g.1, from_unary ed n h u g.0 (t ∷ us) m.1 g.1 (t, us, refl, e, refl, m.2) g.2, g.3, g.4)
 
-  pub on_expr_back : (n : ℕ) (h : Bool) (l : ℕ) (x : Expected) (next : Expr → State) (t : Lexeme) (us : List Lexeme) (f : File) →
+  pub on_expr_back : (n : ℕ) (h : Bool) (l : ℕ) (x : Expected) (next : Expression → Reader) (t : Lexeme) (us : List Lexeme) (f : File) →
       After ed B (on_expr n h l x next t) us f → Expressed n h l next (t ∷ us) f
   on_expr_back n h l x next t us f a = elim (after_cond ed B (same kinds.Name t.kind) _ _ us f a) [
     | inl y ↦ operand_back n h l next (name t.place t.text) (t ∷ us) us f (t, token_here kinds.Name t us (are_same kinds.Name t.kind y.0), refl, refl)
@@ -158,7 +158,7 @@ module _ (ed : Edition) (B : ℕ) where
   ]
 
   -- a move by the kind of the first token
-  abbrev expr_at : ℕ → Bool → ℕ → Expected → (Expr → State) → Lexeme → TokenKind → Move
+  abbrev expr_at : ℕ → Bool → ℕ → Expected → (Expression → Reader) → Lexeme → TokenKind → Move
   expr_at n h l x next t k =
       cond (same kinds.Name k) (Take l (behind_operand n h l next (name t.place t.text)))
       (cond (same kinds.Integer k) (Take l (behind_operand n h l next (integer t.place t.text)))
@@ -169,11 +169,11 @@ module _ (ed : Edition) (B : ℕ) where
       (cond (same (keyword keywords.Struct) k) (Take (l + 1) (behind_struct (l + 1) (behind_literal_type l (behind_operand n h l next)) t))
       (on_unary n h l next t (Fail x) (unary_of k))))))))
 
-  expr_by : (n : ℕ) (h : Bool) (l : ℕ) (x : Expected) (next : Expr → State) (t : Lexeme) (us : List Lexeme) (f : File) (k : TokenKind) → t.kind ≡ k →
+  expr_by : (n : ℕ) (h : Bool) (l : ℕ) (x : Expected) (next : Expression → Reader) (t : Lexeme) (us : List Lexeme) (f : File) (k : TokenKind) → t.kind ≡ k →
       After ed B (expr_at n h l x next t k) us f → After ed B (on_expr n h l x next t) us f
   expr_by n h l x next t us f k e a = subst (λ y. After ed B (expr_at n h l x next t y) us f) (sym e) a
 
-  unary_at : (n : ℕ) (h : Bool) (l : ℕ) (x : Expected) (next : Expr → State) (t : Lexeme) (us : List Lexeme) (f : File) (k : TokenKind) (op : UnaryOperator) →
+  unary_at : (n : ℕ) (h : Bool) (l : ℕ) (x : Expected) (next : Expression → Reader) (t : Lexeme) (us : List Lexeme) (f : File) (k : TokenKind) (op : UnaryOperator) →
       unary_of k ≡ Some op →
       After ed B (on_unary n h l next t (Fail x) (unary_of k)) us f → After ed B (expr_at n h l x next t k) us f
   unary_at n h l x next t us f (kinds.Punctuation marks.Plus) op e a = a
@@ -183,7 +183,7 @@ module _ (ed : Edition) (B : ℕ) where
   unary_at n h l x next t us f _ op e a = absurd a
 
   -- the type of an operand
-  type_operand_forth : (n : ℕ) (h : Bool) (l : ℕ) (x : Expected) (next : Expr → State) (t : Lexeme) (us vs : List Lexeme) (f : File) (a : TypeExpr) →
+  type_operand_forth : (n : ℕ) (h : Bool) (l : ℕ) (x : Expected) (next : Expression → Reader) (t : Lexeme) (us vs : List Lexeme) (f : File) (a : TypeExpr) →
       is_named a ≡ false → IsType ed a (t ∷ us) vs →
       l + 1 + type_height a ≤ B + 1 → Means ed B (behind_literal_type l (behind_operand n h l next) a) vs f → After ed B (on_expr n h l x next t) us f
   type_operand_forth n h l x next t us vs f (named p m) unnamed d le r = absurd (false_true (sym unnamed))
@@ -198,7 +198,7 @@ module _ (ed : Edition) (B : ℕ) where
       expr_by n h l x next t us f (keyword keywords.Struct) (first_is (keyword keywords.Struct) t d.0 us d.3 d.6).2
       (omega arith, struct_forth ed B (l + 1) (behind_literal_type l (behind_operand n h l next)) t us vs f p fs d le r)
 
-  operand_forth : (n : ℕ) (h : Bool) (l : ℕ) (x : Expected) (next : Expr → State) (t : Lexeme) (us vs : List Lexeme) (f : File) (a : Expr) →
+  operand_forth : (n : ℕ) (h : Bool) (l : ℕ) (x : Expected) (next : Expression → Reader) (t : Lexeme) (us vs : List Lexeme) (f : File) (a : Expression) →
       IsOperand ed a (t ∷ us) vs →
       l + height a ≤ B + 1 → Means ed B (behind_operand n h l next a) vs f → After ed B (on_expr n h l x next t) us f
   operand_forth n h l x next t us vs f (name p text) d le m =
@@ -262,7 +262,7 @@ module _ (ed : Edition) (B : ℕ) where
   operand_forth n h l x next t us vs f (unary p op e) d le m = absurd d
   operand_forth n h l x next t us vs f (binary p op e g) d le m = absurd d
 
-  unary_forth : (n : ℕ) (h : Bool) (l : ℕ) (x : Expected) (next : Expr → State) (t : Lexeme) (us vs : List Lexeme) (f : File) (a : Expr) →
+  unary_forth : (n : ℕ) (h : Bool) (l : ℕ) (x : Expected) (next : Expression → Reader) (t : Lexeme) (us vs : List Lexeme) (f : File) (a : Expression) →
       IsUnary ed h a (t ∷ us) vs →
       l + height a ≤ B + 1 → Means ed B (tails n h l next a) vs f → After ed B (on_expr n h l x next t) us f
   unary_forth n h l x next t us vs f (unary p op a) d le m =
@@ -284,7 +284,7 @@ module _ (ed : Edition) (B : ℕ) where
       unary_at n h l x next t us f t.kind op is (subst (λ o. After ed B (on_unary n h l next t (Fail x) o) us f) (sym is) after)
   unary_forth n h l x next t us vs f _ d le m = absurd d
 
-  pub on_expr_forth : (n : ℕ) (h : Bool) (l : ℕ) (x : Expected) (next : Expr → State) (t : Lexeme) (us : List Lexeme) (f : File) →
+  pub on_expr_forth : (n : ℕ) (h : Bool) (l : ℕ) (x : Expected) (next : Expression → Reader) (t : Lexeme) (us : List Lexeme) (f : File) →
       Expressed n h l next (t ∷ us) f → After ed B (on_expr n h l x next t) us f
   on_expr_forth n h l x next t us f m = elim (parts ed n h m.0 (t ∷ us) m.1 m.2) [
     | inl p ↦ operand_forth n h l x next t us p.1 f p.0 p.2 (omega (arith, m.3, grown_height ed n h p.0 m.0 p.1 m.1 p.3))
@@ -294,7 +294,7 @@ module _ (ed : Edition) (B : ℕ) where
   ]
 
   -- what is due behind the first token is good
-  pub behind_opening_good : (n : ℕ) (h : Bool) (l : ℕ) (x : Expected) (next : Expr → State) (t : Lexeme) → l + 1 ≤ B → Okay ed B (expr n h l x next) →
+  pub behind_opening_good : (n : ℕ) (h : Bool) (l : ℕ) (x : Expected) (next : Expression → Reader) (t : Lexeme) → l + 1 ≤ B → Okay ed B (expr n h l x next) →
       Good ed B (behind_opening n h l next t)
   behind_opening_good n h l x next t le ok = (
     le,
@@ -304,12 +304,12 @@ module _ (ed : Edition) (B : ℕ) where
     ),
   )
 
-  type_operand_okay : (n : ℕ) (h : Bool) (l : ℕ) (x y : Expected) (next : Expr → State) → Okay ed B (expr n h l x next) →
+  type_operand_okay : (n : ℕ) (h : Bool) (l : ℕ) (x y : Expected) (next : Expression → Reader) → Okay ed B (expr n h l x next) →
       Okay ed B (type (l + 1) y (behind_literal_type l (behind_operand n h l next)))
   type_operand_okay n h l x y next ok =
       ((λ a fits. behind_literal_type_good ed B l (behind_operand n h l next) a fits (behind_operand_good ed B n h l next ok.0 ok.1)), λ a. no_period l (behind_operand n h l next) a)
 
-  on_unary_kept : (n : ℕ) (h : Bool) (l : ℕ) (x : Expected) (next : Expr → State) (t : Lexeme) (o : Option UnaryOperator) →
+  on_unary_kept : (n : ℕ) (h : Bool) (l : ℕ) (x : Expected) (next : Expression → Reader) (t : Lexeme) (o : Option UnaryOperator) →
       Okay ed B (expr n h l x next) → Kept ed B (on_unary n h l next t (Fail x) o)
   on_unary_kept n h l x next t None ok = tt
   on_unary_kept n h l x next t (Some op) ok = λ le. (
@@ -323,7 +323,7 @@ module _ (ed : Edition) (B : ℕ) where
     ),
   )
 
-  pub on_expr_kept : (n : ℕ) (h : Bool) (l : ℕ) (x : Expected) (next : Expr → State) (t : Lexeme) → Okay ed B (expr n h l x next) →
+  pub on_expr_kept : (n : ℕ) (h : Bool) (l : ℕ) (x : Expected) (next : Expression → Reader) (t : Lexeme) → Okay ed B (expr n h l x next) →
       Kept ed B (on_expr n h l x next t)
   on_expr_kept n h l x next t ok =
       kept_cond ed B (same kinds.Name t.kind) _ _ (λ e le. behind_operand_good ed B n h l next ok.0 ok.1 (name t.place t.text) (omega arith)) (λ e.
@@ -338,23 +338,23 @@ module _ (ed : Edition) (B : ℕ) where
       on_unary_kept n h l x next t (unary_of t.kind) ok)))))))
 
   -- the state
-  pub expr_back : (n : ℕ) (h : Bool) (l : ℕ) (x : Expected) (next : Expr → State) (t : Lexeme) (us : List Lexeme) (f : File) →
-      After ed B (step ed (expr n h l x next) t) us f → Means ed B (expr n h l x next) (t ∷ us) f
+  pub expr_back : (n : ℕ) (h : Bool) (l : ℕ) (x : Expected) (next : Expression → Reader) (t : Lexeme) (us : List Lexeme) (f : File) →
+      After ed B (parser_step ed (expr n h l x next) t) us f → Means ed B (expr n h l x next) (t ∷ us) f
   expr_back = on_expr_back
 
-  pub expr_forth : (n : ℕ) (h : Bool) (l : ℕ) (x : Expected) (next : Expr → State) (t : Lexeme) (us : List Lexeme) (f : File) →
-      Means ed B (expr n h l x next) (t ∷ us) f → After ed B (step ed (expr n h l x next) t) us f
+  pub expr_forth : (n : ℕ) (h : Bool) (l : ℕ) (x : Expected) (next : Expression → Reader) (t : Lexeme) (us : List Lexeme) (f : File) →
+      Means ed B (expr n h l x next) (t ∷ us) f → After ed B (parser_step ed (expr n h l x next) t) us f
   expr_forth = on_expr_forth
 
-  pub expr_kept : (n : ℕ) (h : Bool) (l : ℕ) (x : Expected) (next : Expr → State) (t : Lexeme) → Okay ed B (expr n h l x next) →
-      Kept ed B (step ed (expr n h l x next) t)
+  pub expr_kept : (n : ℕ) (h : Bool) (l : ℕ) (x : Expected) (next : Expression → Reader) (t : Lexeme) → Okay ed B (expr n h l x next) →
+      Kept ed B (parser_step ed (expr n h l x next) t)
   expr_kept = on_expr_kept
 
-  pub expr_begins : (n : ℕ) (h : Bool) (l : ℕ) (x : Expected) (next : Expr → State) (t : Lexeme) (us : List Lexeme) (f : File) →
+  pub expr_begins : (n : ℕ) (h : Bool) (l : ℕ) (x : Expected) (next : Expression → Reader) (t : Lexeme) (us : List Lexeme) (f : File) →
       Means ed B (expr n h l x next) (t ∷ us) f → begins (expr n h l x next) t.kind ≡ true
   expr_begins n h l x next t us f m = expr_first ed n h m.0 t us m.1 m.2
 
-  pub expr_comes : (n : ℕ) (h : Bool) (l : ℕ) (x : Expected) (next : Expr → State) → l ≤ B → ((e : Expr) → l + height e ≤ B + 1 → Comes ed B (next e)) →
+  pub expr_comes : (n : ℕ) (h : Bool) (l : ℕ) (x : Expected) (next : Expression → Reader) → l ≤ B → ((e : Expression) → l + height e ≤ B + 1 → Comes ed B (next e)) →
       Comes ed B (expr n h l x next)
   expr_comes n h l x next le on =
       let t = a_token kinds.Name in
@@ -362,5 +362,5 @@ module _ (ed : Edition) (B : ℕ) where
       let c = on e (omega arith) in
       (t ∷ c.0, c.1, (e, c.0, (t, token_first kinds.Name c.0, refl, refl), omega arith, c.2))
 
-  pub expr_over : (n : ℕ) (h : Bool) (l : ℕ) (x : Expected) (next : Expr → State) (f : File) → Means ed B (expr n h l x next) [] f → ⊥
+  pub expr_over : (n : ℕ) (h : Bool) (l : ℕ) (x : Expected) (next : Expression → Reader) (f : File) → Means ed B (expr n h l x next) [] f → ⊥
   expr_over n h l x next f m = expr_never ed n h m.0 m.1 m.2

@@ -6,9 +6,9 @@ use Rattle.go_scan.specs.declared.token.TokenKind.{TokenKind}
 use Rattle.go_scan.specs.declared.token.TokenKind.TheVariants as kinds
 use Rattle.go_scan.specs.declared.keyword.Keyword.TheVariants as keywords
 use Rattle.go_scan.specs.declared.punctuation.Punctuation.TheVariants as marks
-use Rattle.go_ast.specs.Trees.{Name, Expr, name, integer, rune, string, parenthesized, composite_lit, conversion, selector, index, cut, call, type_operand, unary, binary, Exprs, Simple, call_statement, increment, decrement, assignment, operator_assignment, short_var_decl, Stmt, Else, no_else, else_block, else_if, conditional, File, pack, pack_stmts}
+use Rattle.go_ast.specs.Trees.{Name, Expression, name, integer, rune, string, parenthesized, composite_lit, conversion, selector, index, cut, call, type_operand, unary, binary, ExpressionList, Simple, call_statement, increment, decrement, assignment, operator_assignment, short_var_decl, Statement, Else, no_else, else_block, else_if, conditional, File, pack, pack_statements}
 use Rattle.go_ast.specs.Grammar.{Lexeme, Token, assign, comma, period, semicolon, define, opening_brace, opening_bracket, opening, closing, closing_brace, AreItems, AreOperands, IsTypeOperand, AreMoreNames, AreMoreExprs, AreStmts, AreClauses, IsElse, IsCase, is_call, is_last}
-use Rattle.go_ast.specs.Machine.{ListKind, Item, separator, closer, Clause, pack_clauses, Position, State, ended, token, package_name, import_path, optional, newer, operands, type, optional_type, expr, optional_expr, suffixes, operators, more_names, more_exprs, list_start, list_end, lefts, else_part, clause_start, clause_end, import_end, decl_end, keyword, final, final_if}
+use Rattle.go_ast.specs.Machine.{ListKind, Item, separator, closer, Clause, pack_cases, Position, Reader, ended, token, package_name, import_path, optional, newer, operands, type, optional_type, expr, optional_expr, suffixes, operators, more_names, more_exprs, list_start, list_end, lefts, else_part, clause_start, clause_end, import_end, decl_end, keyword, final, final_if}
 use Rattle.go_ast.proofs.Means.{Itself, IsTypeName, Suffixed, Joined, IsItem, Continues, Means, Okay}
 use Rattle.go_ast.proofs.Tokens.{no_token, none_left}
 use Rattle.go_ast.proofs.Types.{type_never}
@@ -21,11 +21,11 @@ use Rattle.go_ast.proofs.Never.{stmt_never, item_never}
 nothing_more : (k : TokenKind) (t : Lexeme) (vs ws : List Lexeme) → [] ≡ vs → Token k t vs ws → ⊥
 nothing_more k t vs ws e d = no_token k t ws (subst (λ x. Token k t x ws) (sym e) d)
 
-named_never : (a x : Expr) (k : TokenKind) (o : Lexeme) (vs ws : List Lexeme) → IsTypeName a x [] vs → Token k o vs ws → ⊥
+named_never : (a x : Expression) (k : TokenKind) (o : Lexeme) (vs ws : List Lexeme) → IsTypeName a x [] vs → Token k o vs ws → ⊥
 named_never a x k o vs ws (inl i) d = nothing_more k o vs ws i.1 d
 named_never a x k o vs ws (inr n) d = no_token period n.0 n.2 n.3
 
-not_suffixed : (ed : Edition) → (h : Bool) (a e : Expr) (ws : List Lexeme) → Suffixed ed h a e [] ws → Itself a e [] ws
+not_suffixed : (ed : Edition) → (h : Bool) (a e : Expression) (ws : List Lexeme) → Suffixed ed h a e [] ws → Itself a e [] ws
 not_suffixed ed h a (selector p e n) ws (inl i) = i
 not_suffixed ed h a (selector p e n) ws (inr d) = absurd (nothing_more period d.0 d.2 d.3 (not_suffixed ed h a e d.2 d.5).1 d.6)
 not_suffixed ed h a (index p e i) ws (inl s) = s
@@ -46,7 +46,7 @@ not_suffixed ed h a (conversion p b e) ws d = d
 not_suffixed ed h a (unary p op e) ws d = d
 not_suffixed ed h a (binary p op b c) ws d = d
 
-not_joined : (ed : Edition) → (n : ℕ) (h : Bool) (a e : Expr) (ws : List Lexeme) → Joined ed n h a e [] ws → Itself a e [] ws
+not_joined : (ed : Edition) → (n : ℕ) (h : Bool) (a e : Expression) (ws : List Lexeme) → Joined ed n h a e [] ws → Itself a e [] ws
 not_joined ed n h a (binary p op e b) ws (inl i) = i
 not_joined ed n h a (binary p op e b) ws (inr d) =
     let i = not_joined ed n h a e d.1 d.5 in
@@ -69,13 +69,13 @@ no_more_names : (ns : List Name) (ws : List Lexeme) → AreMoreNames ns [] ws �
 no_more_names [] ws d = (refl, d)
 no_more_names (n ∷ ns) ws d = absurd (no_token comma d.0 d.2 d.4)
 
-no_more_exprs : (ed : Edition) → (h : Bool) (es : List Expr) (ws : List Lexeme) → AreMoreExprs ed h (pack es) [] ws → (es ≡ []) × ([] ≡ ws)
+no_more_exprs : (ed : Edition) → (h : Bool) (es : List Expression) (ws : List Lexeme) → AreMoreExprs ed h (pack es) [] ws → (es ≡ []) × ([] ≡ ws)
 no_more_exprs ed h [] ws d = (refl, d)
 no_more_exprs ed h (e ∷ es) ws d = absurd (no_token comma d.0 d.1 d.3)
 
 -- a simple statement that ends with its first left side is a call
-only_call : (ed : Edition) → (h : Bool) (front : List Expr) (s : Simple) (ws : List Lexeme) → Continues ed h front s [] ws →
-    (e : Expr) × (front ≡ e ∷ []) × (s ≡ call_statement e) × (is_call e ≡ true) × ([] ≡ ws)
+only_call : (ed : Edition) → (h : Bool) (front : List Expression) (s : Simple) (ws : List Lexeme) → Continues ed h front s [] ws →
+    (e : Expression) × (front ≡ e ∷ []) × (s ≡ call_statement e) × (is_call e ≡ true) × ([] ≡ ws)
 only_call ed h front (call_statement e) ws d = (e, d.0, refl, d.1, d.2)
 only_call ed h front (increment e) ws d = absurd (no_token (kinds.Punctuation marks.Increment) d.0 ws d.2)
 only_call ed h front (decrement e) ws d = absurd (no_token (kinds.Punctuation marks.Decrement) d.0 ws d.2)
@@ -83,11 +83,11 @@ only_call ed h front (assignment ls rs) ws d = absurd (nothing_more assign d.1 d
 only_call ed h front (operator_assignment op l r) ws d = absurd (none_left d.0 d.1 (sym d.3))
 only_call ed h front (short_var_decl ns rs) ws d = absurd (nothing_more define d.1 d.2 d.3 (no_more_exprs ed h d.0 d.2 d.4).1 d.6)
 
-type_operand_never : (ed : Edition) → (e : Expr) (ws : List Lexeme) → IsTypeOperand ed e [] ws → ⊥
+type_operand_never : (ed : Edition) → (e : Expression) (ws : List Lexeme) → IsTypeOperand ed e [] ws → ⊥
 type_operand_never ed (type_operand p a) ws d = type_never ed a ws d.2
 type_operand_never ed _ ws d = d
 
-operands_never : (ed : Edition) → (es : List Expr) (c : Lexeme) (vs ws : List Lexeme) → AreOperands ed (pack es) [] vs → Token closing c vs ws → ⊥
+operands_never : (ed : Edition) → (es : List Expression) (c : Lexeme) (vs ws : List Lexeme) → AreOperands ed (pack es) [] vs → Token closing c vs ws → ⊥
 operands_never ed [] c vs ws are close = nothing_more closing c vs ws are close
 operands_never ed (e ∷ es) c vs ws are close = elim are.1 [
   | inl d ↦ expr_never ed 5 false e are.0 d
@@ -98,36 +98,36 @@ items_never : (ed : Edition) → (k : ListKind) (is : List (Item k)) (c : Lexeme
 items_never ed k [] c vs ws are close = nothing_more (closer k) c vs ws are close
 items_never ed k (i ∷ is) c vs ws are close = item_never ed k i are.0 are.1
 
-stmts_over : (ed : Edition) → (closed : Bool) (ss : List Stmt) (vs : List Lexeme) → AreStmts ed closed (pack_stmts ss) [] vs → [] ≡ vs
+stmts_over : (ed : Edition) → (closed : Bool) (ss : List Statement) (vs : List Lexeme) → AreStmts ed closed (pack_statements ss) [] vs → [] ≡ vs
 stmts_over ed closed [] vs are = are
 stmts_over ed closed (s ∷ ss) vs are = absurd (stmt_never ed s are.0 are.1)
 
-case_never : (ed : Edition) → (p : Place) (values : Option Exprs) (ws : List Lexeme) → IsCase ed p values [] ws → ⊥
+case_never : (ed : Edition) → (p : Place) (values : Option ExpressionList) (ws : List Lexeme) → IsCase ed p values [] ws → ⊥
 case_never ed p None ws d = no_token (keyword keywords.Default) d.0 ws d.1
 case_never ed p (Some es) ws d = no_token (keyword keywords.Case) d.0 d.1 d.2
 
-clauses_never : (ed : Edition) → (cs : List Clause) (c : Lexeme) (vs xs ws : List Lexeme) → [] ≡ vs → AreClauses ed (pack_clauses cs) vs xs → Token closing_brace c xs ws → ⊥
+clauses_never : (ed : Edition) → (cs : List Clause) (c : Lexeme) (vs xs ws : List Lexeme) → [] ≡ vs → AreClauses ed (pack_cases cs) vs xs → Token closing_brace c xs ws → ⊥
 clauses_never ed [] c vs xs ws e are close = nothing_more closing_brace c xs ws (e ∙ are) close
 clauses_never ed (d ∷ cs) c vs xs ws e are close = case_never ed d.0 d.1.0 are.1 (subst (λ x. IsCase ed d.0 d.1.0 x are.1) (sym e) are.4)
 
 no_file : {A : Type 0} (f : File) → None ≡ Some f → A
 no_file f e = absurd (cc (e))
 
-one_of_one : (a b : Expr) → a ∷ [] ≡ b ∷ [] → a ≡ b
+one_of_one : (a b : Expression) → a ∷ [] ≡ b ∷ [] → a ≡ b
 one_of_one a b e = cc (e)
 
-two_of_one : (a b c : Expr) (es : List Expr) → a ∷ b ∷ es ≡ c ∷ [] → ⊥
+two_of_one : (a b c : Expression) (es : List Expression) → a ∷ b ∷ es ≡ c ∷ [] → ⊥
 two_of_one a b c es e = cc (e)
 
-none_of_one : (a : Expr) → [] ≡ a ∷ [] → ⊥
+none_of_one : (a : Expression) → [] ≡ a ∷ [] → ⊥
 none_of_one a e = cc (e)
 
 module _ (ed : Edition) (B : ℕ) where
   -- the same state and tokens
-  led : {A : Type 0} (next : A → State) (a b : A) (ws : List Lexeme) (f : File) → b ≡ a → [] ≡ ws → Means ed B (next b) ws f → Means ed B (next a) [] f
+  led : {A : Type 0} (next : A → Reader) (a b : A) (ws : List Lexeme) (f : File) → b ≡ a → [] ≡ ws → Means ed B (next b) ws f → Means ed B (next a) [] f
   led next a b ws f e q m = subst (λ x. Means ed B (next x) [] f) e (subst (λ x. Means ed B (next b) x f) (sym q) m)
 
-  call_over : (m : Position) (h : Bool) (l : ℕ) (e : Expr) (next : Simple → State) (s : Simple) (ws : List Lexeme) (f : File) → Continues ed h (e ∷ []) s [] ws →
+  call_over : (m : Position) (h : Bool) (l : ℕ) (e : Expression) (next : Simple → Reader) (s : Simple) (ws : List Lexeme) (f : File) → Continues ed h (e ∷ []) s [] ws →
       Means ed B (next s) ws f →
       (Means ed B (next (call_statement e)) [] f → final (next (call_statement e)) ≡ Some f) → final_if (is_call e) (final (next (call_statement e))) ≡ Some f
   call_over m h l e next s ws f d n go =
@@ -142,7 +142,7 @@ module _ (ed : Edition) (B : ℕ) where
   else_over (else_if i) ws d = absurd (no_token (keyword keywords.Else) d.0 d.1 d.2)
 
   -- tokens that are over lead to the file that the state says
-  pub over : (s : State) (f : File) → Means ed B s [] f → final s ≡ Some f
+  pub over : (s : Reader) (f : File) → Means ed B s [] f → final s ≡ Some f
   over (ended g) f m = ap Some (sym m.1)
   over (token kind need x next) f m = absurd (no_token kind m.0 m.1 m.2)
   over (package_name next) f m = absurd (no_token kinds.Name m.0 m.1 m.2)
@@ -180,14 +180,14 @@ module _ (ed : Edition) (B : ℕ) where
   over (else_part l p i c b next) f m =
       let r = else_over m.0 m.1 m.2 in
       over (next (conditional p i c b no_else)) f (led (λ x. next (conditional p i c b x)) no_else m.0 m.1 f r.0 r.1 m.4)
-  over (clause_start l done p values front next) f m = absurd (clauses_never ed m.1 m.2 m.3 m.4 m.5 (stmts_over ed (is_last (pack_clauses m.1)) m.0 m.3 m.6) m.7 m.10)
+  over (clause_start l done p values front next) f m = absurd (clauses_never ed m.1 m.2 m.3 m.4 m.5 (stmts_over ed (is_last (pack_cases m.1)) m.0 m.3 m.6) m.7 m.10)
   over (clause_end l x done p values front next) f (ss, cs, c, vs, xs, ws, inl b, are, fit, low, close, m) = absurd (no_token semicolon b.0 b.1 b.2)
   over (clause_end l x done p values front next) f (ss, cs, c, vs, xs, ws, inr b, are, fit, low, close, m) = absurd (clauses_never ed cs c vs xs ws b.1 are close)
   over (import_end p iss) f m = absurd (no_token semicolon m.0 m.1 m.5)
   over (decl_end p is ds) f m = absurd (no_token semicolon m.0 m.1 m.3)
 
   -- the file that a state says is the one that no tokens lead to
-  pub ends : (s : State) (f : File) → Okay ed B s → final s ≡ Some f → Means ed B s [] f
+  pub ends : (s : Reader) (f : File) → Okay ed B s → final s ≡ Some f → Means ed B s [] f
   ends (ended g) f ok e = let file : g ≡ f = cc in (refl, sym file)
   ends (optional kind need some none) f ok e = inr (ends none f ok.1 e)
   ends (newer kind need x some none) f ok e = inr (ends none f ok.1 e)

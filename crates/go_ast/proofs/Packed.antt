@@ -2,7 +2,7 @@
 use Rattle.std.proofs.Common.{◌≡◌, ℕ, ◌+◌, ◌≤◌, inl, inr, List, [], ◌∷◌, Option, refl, ap, arith}
 use Rattle.go_text.specs.declared.edition.Edition.{Edition}
 use Rattle.go_scan.specs.declared.token.TokenKind.{TokenKind}
-use Rattle.go_ast.specs.Trees.{Name, TypeExpr, Fields, no_fields, field, Elements, no_elements, element, Element, pack_fields, pack_elements}
+use Rattle.go_ast.specs.Trees.{Name, TypeExpr, FieldDecls, no_fields, field, Elements, no_elements, element, Element, pack_fields, pack_elements}
 use Rattle.go_ast.specs.Heights.{fields_height, elements_height}
 use Rattle.go_ast.specs.Grammar.{Lexeme, semicolon, comma, Behind, AreItems, AreFields, AreElements}
 use Rattle.go_ast.specs.Machine.{fields, elements}
@@ -17,11 +17,11 @@ behind_as separator Others Others' Last Last' us ws p q h = elim h [
 ]
 
 -- fields
-pub unpack_fields : Fields → List (List Name × TypeExpr)
+pub unpack_fields : FieldDecls → List (List Name × TypeExpr)
 unpack_fields no_fields = []
 unpack_fields (field ns a fs) = (ns, a) ∷ unpack_fields fs
 
-pub packed_fields : (fs : Fields) → pack_fields (unpack_fields fs) ≡ fs
+pub packed_fields : (fs : FieldDecls) → pack_fields (unpack_fields fs) ≡ fs
 unfolding unpack_fields
 packed_fields no_fields = refl
 packed_fields (field ns a fs) = ap (field ns a) (packed_fields fs)
@@ -29,7 +29,7 @@ packed_fields (field ns a fs) = ap (field ns a) (packed_fields fs)
 last_field : (fs : List (List Name × TypeExpr)) → fs ≡ [] → pack_fields fs ≡ no_fields
 last_field fs e = ap pack_fields e
 
-field_last : (fs : Fields) → fs ≡ no_fields → unpack_fields fs ≡ []
+field_last : (fs : FieldDecls) → fs ≡ no_fields → unpack_fields fs ≡ []
 unfolding unpack_fields
 field_last fs e = ap unpack_fields e
 
@@ -45,7 +45,7 @@ fields_from ed l (f ∷ fs) us ws h = (
       (λ vs x. fields_from ed l fs vs ws x) (last_field fs) h.2,
 )
 
-pub fields_to : (ed : Edition) → (l : ℕ) (fs : Fields) (us ws : List Lexeme) → AreFields ed fs us ws → AreItems (IsItem ed (fields l)) semicolon (unpack_fields fs) us ws
+pub fields_to : (ed : Edition) → (l : ℕ) (fs : FieldDecls) (us ws : List Lexeme) → AreFields ed fs us ws → AreItems (IsItem ed (fields l)) semicolon (unpack_fields fs) us ws
 unfolding unpack_fields
 fields_to ed l no_fields us ws h = h
 fields_to ed l (field ns a fs) us ws h = (
@@ -100,7 +100,7 @@ module _ (ed : Edition) (B : ℕ) where
   fields_fit l [] le h = omega arith
   fields_fit l (f ∷ fs) le h = omega (arith, h.0, fields_fit l fs le h.1)
 
-  pub fit_fields : (l : ℕ) (fs : Fields) → l + fields_height fs ≤ B + 1 → FitItems ed B (fields l) (unpack_fields fs)
+  pub fit_fields : (l : ℕ) (fs : FieldDecls) → l + fields_height fs ≤ B + 1 → FitItems ed B (fields l) (unpack_fields fs)
   unfolding unpack_fields
   fit_fields l no_fields le = tt
   fit_fields l (field ns a fs) le = (omega arith, fit_fields l fs (omega arith))

@@ -13,9 +13,9 @@ use Rattle.go_ast.specs.declared.expression.ExprKind.{ExprKind, Name, Integer, R
 use Rattle.go_ast.specs.declared.expression.Bound.{Bound, Open, At}
 use Rattle.go_ast.specs.declared.expression.Element.{Element}
 use Rattle.go_ast.specs.declared.expression.ElementValue.{ElementValue, Expression, Value, Value', Row_of-Element, end_of-Element, more_of-Element, items-the_row-Element, items_hidden-the_row-Element-0}
-use Rattle.go_ast.specs.Views.{type_at, expr_at, bound_of, fields_of, exprs_of, elements_of, element_value_of, type_of, expr_of, value_of, element_of, field_of, exprs_in}
+use Rattle.go_ast.specs.Views.{type_at, expr_at, bound_of, field_list_tree, exprs_of, elements_of, element_value_of, type_of, expr_of, value_of, element_of, field_of, exprs_in}
 
-field_items : (n : _) (row : Row_of-Field n) → fields_of row ≡ trees.pack_fields (map field_of (items-the_row-Field n row))
+field_items : (n : _) (row : Row_of-Field n) → field_list_tree row ≡ trees.pack_fields (map field_of (items-the_row-Field n row))
 unfolding type_of
 field_items n end_of-Field = refl
 field_items n (more_of-Field names q a rest) = ap (trees.field names.items (type_at a q)) (field_items _ rest)

@@ -2,7 +2,7 @@
 use Rattle.std.proofs.Common.{◌≡◌, ◌≤◌, Bool, List, [], ◌∷◌, ◌++◌, Option, Some, None, refl, sym, ap, ◌∙◌, subst, arith, append_assoc}
 use Rattle.go_text.specs.declared.edition.Edition.{Edition}
 use Rattle.go_scan.specs.declared.token.TokenKind.TheVariants as kinds
-use Rattle.go_ast.specs.Trees.{Name, Expr, name, Exprs, no_exprs, some_exprs, Simple, call_statement, increment, decrement, assignment, operator_assignment, short_var_decl, pack}
+use Rattle.go_ast.specs.Trees.{Name, Expression, name, ExpressionList, no_exprs, some_exprs, Simple, call_statement, increment, decrement, assignment, operator_assignment, short_var_decl, pack}
 use Rattle.go_ast.specs.Heights.{height, exprs_height, simple_height}
 use Rattle.go_ast.specs.Grammar.{Lexeme, Token, name_of, IsExpr, AreMoreNames, AreNames, AreMoreExprs, AreExprs, IsSimple}
 use Rattle.go_ast.specs.Machine.{name_if, push_name, names_if}
@@ -20,17 +20,17 @@ push_split None b ns q = absurd (let c : None ≡ Some ns = q in cc (c))
 push_split (Some n) None ns q = absurd (let c : None ≡ Some ns = q in cc (c))
 push_split (Some n) (Some ms) ns q = (n, ms, refl, refl, (let c : Some (n ∷ ms) ≡ Some ns = q in cc (c)))
 
-pub is_name : (e : Expr) (n : Name) → name_if e ≡ Some n → e ≡ name n.place n.text
+pub is_name : (e : Expression) (n : Name) → name_if e ≡ Some n → e ≡ name n.place n.text
 is_name (name p text) n q =
     let c : Some (record { text = text; place = p }) ≡ Some n = q in
     let d : record { text = text; place = p } ≡ n = cc (c) in
     ap (λ (x : Name). name x.place x.text) d
 is_name _ n q = absurd (let c : None ≡ Some n = q in cc (c))
 
-abbrev pub name_expr : Name → Expr
+abbrev pub name_expr : Name → Expression
 name_expr n = name n.place n.text
 
-abbrev pub name_exprs : List Name → List Expr
+abbrev pub name_exprs : List Name → List Expression
 name_exprs [] = []
 name_exprs (n ∷ ns) = name_expr n ∷ name_exprs ns
 
@@ -45,7 +45,7 @@ name_read ed h n us ws d =
 pub name_is_expr : (ed : Edition) → (h : Bool) (n : Name) (t : Lexeme) (us ws : List Lexeme) → Token kinds.Name t us ws → n ≡ name_of t → IsExpr ed 5 h (name_expr n) us ws
 name_is_expr ed h n t us ws k q = (t, k, ap (λ (x : Name). x.place) q, ap (λ (x : Name). x.text) q)
 
-pub more_names_back : (ed : Edition) → (h : Bool) (es : List Expr) (ns : List Name) (us ws : List Lexeme) → AreMoreExprs ed h (pack es) us ws → names_if es ≡ Some ns →
+pub more_names_back : (ed : Edition) → (h : Bool) (es : List Expression) (ns : List Name) (us ws : List Lexeme) → AreMoreExprs ed h (pack es) us ws → names_if es ≡ Some ns →
     AreMoreNames ns us ws
 more_names_back ed h [] ns us ws d q =
     let c : Some [] ≡ Some ns = q in
@@ -56,7 +56,7 @@ more_names_back ed h (e ∷ es) ns us ws d q =
     let r = name_read ed h s.0 d.1 d.2 (subst (λ x. IsExpr ed 5 h x d.1 d.2) (is_name e s.0 s.2) d.4) in
     subst (λ x. AreMoreNames x us ws) (sym s.4) (d.0, r.0, d.1, d.2, d.3, r.1, r.2, more_names_back ed h es s.1 d.2 ws d.5 s.3)
 
-pub names_back : (ed : Edition) → (h : Bool) (e : Expr) (es : List Expr) (ns : List Name) (us vs ws : List Lexeme) → IsExpr ed 5 h e us vs → AreMoreExprs ed h (pack es) vs ws →
+pub names_back : (ed : Edition) → (h : Bool) (e : Expression) (es : List Expression) (ns : List Name) (us vs ws : List Lexeme) → IsExpr ed 5 h e us vs → AreMoreExprs ed h (pack es) vs ws →
     names_if (e ∷ es) ≡ Some ns → AreNames ns us ws
 names_back ed h e es ns us vs ws d more q =
     let s = push_split (name_if e) (names_if es) ns q in
@@ -68,12 +68,12 @@ more_names_forth ed h [] us ws d = d
 more_names_forth ed h (n ∷ ns) us ws d = (d.0, d.2, d.3, d.4, name_is_expr ed h n d.1 d.2 d.3 d.5 d.6, more_names_forth ed h ns d.3 ws d.7)
 
 -- some expressions have at least one level
-pub exprs_height_positive : (ed : Edition) → (h : Bool) (es : Exprs) (us ws : List Lexeme) → AreExprs ed h es us ws → 1 ≤ exprs_height es
+pub exprs_height_positive : (ed : Edition) → (h : Bool) (es : ExpressionList) (us ws : List Lexeme) → AreExprs ed h es us ws → 1 ≤ exprs_height es
 exprs_height_positive ed h no_exprs us ws d = absurd d
 exprs_height_positive ed h (some_exprs e es) us ws d = omega (arith, height_positive e)
 
 -- an expression and what continues it are a simple statement
-pub simple_back : (ed : Edition) → (h : Bool) (e : Expr) (s : Simple) (us vs ws : List Lexeme) → IsExpr ed 5 h e us vs → Continues ed h (e ∷ []) s vs ws → IsSimple ed h s us ws
+pub simple_back : (ed : Edition) → (h : Bool) (e : Expression) (s : Simple) (us vs ws : List Lexeme) → IsExpr ed 5 h e us vs → Continues ed h (e ∷ []) s vs ws → IsSimple ed h s us ws
 simple_back ed h e (call_statement a) us vs ws d c =
     let same : e ≡ a = let q : e ∷ [] ≡ a ∷ [] = c.0 in cc (q) in
     (subst (λ x. IsExpr ed 5 h x us ws) same (subst (λ x. IsExpr ed 5 h e us x) c.2 d), c.1)
@@ -91,7 +91,7 @@ simple_back ed h e (short_var_decl ns rs) us vs ws d c = (c.1, c.2, c.3, names_b
 
 -- the other way round
 abbrev pub Begun : (ed : Edition) → Bool → Simple → List Lexeme → List Lexeme → Type 0
-Begun ed h s us ws = (e : Expr) × (vs : List Lexeme) × IsExpr ed 5 h e us vs × Continues ed h (e ∷ []) s vs ws × (height e ≤ simple_height s)
+Begun ed h s us ws = (e : Expression) × (vs : List Lexeme) × IsExpr ed 5 h e us vs × Continues ed h (e ∷ []) s vs ws × (height e ≤ simple_height s)
 
 pub simple_forth : (ed : Edition) → (h : Bool) (s : Simple) (us ws : List Lexeme) → IsSimple ed h s us ws → Begun ed h s us ws
 simple_forth ed h (call_statement a) us ws d = (a, ws, d.0, (refl, d.1, refl), omega arith)

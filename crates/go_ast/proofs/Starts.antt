@@ -4,7 +4,7 @@ use Rattle.go_text.specs.declared.edition.Edition.{Edition}
 use Rattle.go_scan.specs.declared.token.TokenKind.{TokenKind}
 use Rattle.go_scan.specs.declared.keyword.Keyword.TheVariants as keywords
 use Rattle.go_ast.specs.Kinds.{same}
-use Rattle.go_ast.specs.Trees.{Simple, Decl, constants, variables, types, Stmt, empty, declaration, simple, return, break, continue, fallthrough, block_statement, if_statement, for_statement, range_statement, switch_statement, block, conditional}
+use Rattle.go_ast.specs.Trees.{Simple, Decl, constants, variables, types, Statement, empty, declaration, simple, return, break, continue, fallthrough, block_statement, if_statement, for_statement, range_statement, switch_statement, block, conditional}
 use Rattle.go_ast.specs.Grammar.{Lexeme, opening_brace, semicolon, IsSimple, IsDecl, declares_types, IsStmt}
 use Rattle.go_ast.specs.Machine.{keyword, begins_expr}
 use Rattle.go_ast.proofs.Means.{begins_stmt}
@@ -27,7 +27,7 @@ decl_first ed (variables p ss) t us ws d e = ap begins_stmt (first_is (keyword k
 decl_first ed (types p ss) t us ws d e = absurd (false_true (sym e))
 
 -- it is empty, in front of a semicolon, or begins so
-pub stmt_starts : (ed : Edition) → (s : Stmt) (t : Lexeme) (us ws : List Lexeme) → IsStmt ed s (t ∷ us) ws →
+pub stmt_starts : (ed : Edition) → (s : Statement) (t : Lexeme) (us ws : List Lexeme) → IsStmt ed s (t ∷ us) ws →
     ((s ≡ empty t.place) × (t.kind ≡ semicolon) × (t ∷ us ≡ ws)) ⊎ (begins_stmt t.kind ≡ true)
 stmt_starts ed (empty p) t us ws d =
     let h = first_is semicolon t d.0 us d.1 d.2 in

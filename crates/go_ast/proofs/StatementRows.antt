@@ -15,10 +15,10 @@ use Rattle.go_ast.specs.declared.statement.If.{If}
 use Rattle.go_ast.specs.declared.statement.For.{For}
 use Rattle.go_ast.specs.declared.statement.Range.{Range}
 use Rattle.go_ast.specs.declared.statement.Clause.{Clause}
-use Rattle.go_ast.specs.Machine.{pack_clauses}
+use Rattle.go_ast.specs.Machine.{pack_cases}
 use Rattle.go_ast.specs.Views.{expr_of, exprs_in, if_some, if_boxed, decl_of, simple_of, stmt_at, stmts_of, clauses_of, stmt_of, else_of, clause_of, block_of, if_of}
 
-stmt_items : (n : _) (row : Row_of-Stmt n) → stmts_of row ≡ trees.pack_stmts (map stmt_of (items-the_row-Stmt n row))
+stmt_items : (n : _) (row : Row_of-Stmt n) → stmts_of row ≡ trees.pack_statements (map stmt_of (items-the_row-Stmt n row))
 unfolding stmt_of
 stmt_items n end_of-Stmt = refl
 stmt_items n (more_of-Stmt s rest) = ap (trees.some_stmts (stmt_at s)) (stmt_items _ rest)
@@ -28,10 +28,10 @@ stmt_row (stmts.Block' p n row q) = (_, row)
 stmt_row _ = (_, end_of-Stmt)
 
 -- the statements of a block
-stmts_seen : (b : Block) → stmts_of (stmt_row (stmts.Block b)).1 ≡ trees.pack_stmts (map stmt_of b.statements.items)
+stmts_seen : (b : Block) → stmts_of (stmt_row (stmts.Block b)).1 ≡ trees.pack_statements (map stmt_of b.statements.items)
 stmts_seen b =
     let row = stmt_row (stmts.Block b) in
-    stmt_items row.0 row.1 ∙ ap (λ xs. trees.pack_stmts (map stmt_of xs)) (items_hidden-the_row-Stmt-0 b.statements)
+    stmt_items row.0 row.1 ∙ ap (λ xs. trees.pack_statements (map stmt_of xs)) (items_hidden-the_row-Stmt-0 b.statements)
 
 pub block_seen : (b : Block) → stmt_of (stmts.Block b) ≡ trees.block_statement (block_of b)
 unfolding stmt_of
@@ -99,23 +99,23 @@ fallthrough_seen p = refl
 
 -- clauses
 
-clause_items : (n : _) (row : Row_of-Clause n) → clauses_of row ≡ pack_clauses (map clause_of (items-the_row-Clause n row))
+clause_items : (n : _) (row : Row_of-Clause n) → clauses_of row ≡ pack_cases (map clause_of (items-the_row-Clause n row))
 clause_items n end_of-Clause = refl
 clause_items n (more_of-Clause p es m row rest) =
     ap (λ x. trees.clause p (if_some (λ (v : Vec Expr Global). exprs_in v.items) es) x (clauses_of rest)) (stmt_items _ row)
-    ∙ ap (trees.clause p (if_some (λ (v : Vec Expr Global). exprs_in v.items) es) (trees.pack_stmts (map stmt_of (items-the_row-Stmt _ row))))
+    ∙ ap (trees.clause p (if_some (λ (v : Vec Expr Global). exprs_in v.items) es) (trees.pack_statements (map stmt_of (items-the_row-Stmt _ row))))
     (clause_items _ rest)
-    ∙ ap (λ xs. trees.clause p (if_some (λ (v : Vec Expr Global). exprs_in v.items) es) (trees.pack_stmts (map stmt_of xs))
-    (pack_clauses (map clause_of (items-the_row-Clause _ rest)))) (sym (items_shown-the_row-Stmt-0 m row))
+    ∙ ap (λ xs. trees.clause p (if_some (λ (v : Vec Expr Global). exprs_in v.items) es) (trees.pack_statements (map stmt_of xs))
+    (pack_cases (map clause_of (items-the_row-Clause _ rest)))) (sym (items_shown-the_row-Stmt-0 m row))
 
 abbrev clause_row : Stmt → (n : Count) × Row_of-Clause n
 clause_row (stmts.Switch' p s t n row) = (_, row)
 clause_row _ = (_, end_of-Clause)
 
 pub switch_seen : (p : Place) (s : Option (Box Simple Global)) (t : Option (Box Expr Global)) (cs : Vec Clause Global) →
-    stmt_of (stmts.Switch p s t cs) ≡ trees.switch_statement p (if_boxed simple_of s) (if_boxed expr_of t) (pack_clauses (map clause_of cs.items))
+    stmt_of (stmts.Switch p s t cs) ≡ trees.switch_statement p (if_boxed simple_of s) (if_boxed expr_of t) (pack_cases (map clause_of cs.items))
 unfolding stmt_of
 switch_seen p s t cs =
     let row = clause_row (stmts.Switch p s t cs) in
     ap (trees.switch_statement p (if_boxed simple_of s) (if_boxed expr_of t)) (clause_items row.0 row.1
-    ∙ ap (λ xs. pack_clauses (map clause_of xs)) (items_hidden-the_row-Clause-1 cs))
+    ∙ ap (λ xs. pack_cases (map clause_of xs)) (items_hidden-the_row-Clause-1 cs))

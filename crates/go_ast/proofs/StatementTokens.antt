@@ -6,10 +6,10 @@ use Rattle.go_scan.specs.declared.token.TokenKind.{TokenKind}
 use Rattle.go_scan.specs.declared.keyword.Keyword.TheVariants as keywords
 use Rattle.go_ast.specs.Kinds.{same}
 use Rattle.go_ast.specs.Expected.{Expected, an_operand, a_statement, behind_a_jump, another, is_left_out_at}
-use Rattle.go_ast.specs.Trees.{Expr, Exprs, no_exprs, Simple, call_statement, Decl, constants, variables, types, Stmt, empty, declaration, simple, return, break, continue, fallthrough, block_statement, if_statement, for_statement, range_statement, switch_statement, File}
+use Rattle.go_ast.specs.Trees.{Expression, ExpressionList, no_exprs, Simple, call_statement, Decl, constants, variables, types, Statement, empty, declaration, simple, return, break, continue, fallthrough, block_statement, if_statement, for_statement, range_statement, switch_statement, File}
 use Rattle.go_ast.specs.Heights.{exprs_height, simple_height, decl_height, stmt_height}
 use Rattle.go_ast.specs.Grammar.{Lexeme, Token, closing_brace, opening_brace, semicolon, comma, AreExprs, IsSimple, IsDecl, IsStmt, decl_place, declares_types, simple_place}
-use Rattle.go_ast.specs.Machine.{in_list, State, expr, Move, Take, cond, keyword, begins_expr, list_lefts, open_block, behind_const, behind_var, behind_if, behind_for, behind_switch, behind_return, on_expr}
+use Rattle.go_ast.specs.Machine.{in_list, Reader, expr, Move, Take, cond, keyword, begins_expr, list_lefts, open_block, behind_const, behind_var, behind_if, behind_for, behind_switch, behind_return, on_expr}
 use Rattle.go_ast.proofs.Same.{are_same}
 use Rattle.go_ast.proofs.Means.{begins, begins_stmt, continues, Closes, Means, Okay, Good, After, Kept}
 use Rattle.go_ast.proofs.Base.{false_true, after_cond, after_same, after_other, kept_cond, token_here, first_is, either_false}
@@ -28,13 +28,13 @@ use Rattle.go_ast.proofs.Starts.{simple_first}
 use Rattle.go_ast.proofs.StatementTests.{end_as, before_var, before_return, before_break, before_continue, before_fallthrough, before_block, before_if, before_for, before_switch, before_expr, expr_before}
 use Rattle.go_ast.proofs.Statements.{OnStmt}
 
-abbrev EndsStmt : (Expected → Stmt → State) → Type 0
-EndsStmt next = (x : Expected) (s : Stmt) (k : TokenKind) → begins (next x s) k ≡ true → (same semicolon k || same closing_brace k) ≡ true
+abbrev EndsStmt : (Expected → Statement → Reader) → Type 0
+EndsStmt next = (x : Expected) (s : Statement) (k : TokenKind) → begins (next x s) k ≡ true → (same semicolon k || same closing_brace k) ≡ true
 
 module _ (ed : Edition) (B : ℕ) where
-  module _ (l : ℕ) (next : Expected → Stmt → State) (t : Lexeme) where
+  module _ (l : ℕ) (next : Expected → Statement → Reader) (t : Lexeme) where
     -- the tests, from the last
-    abbrev Lefts : Expr → State
+    abbrev Lefts : Expression → Reader
     Lefts = list_lefts in_list false (l + 1) (λ s. next another (simple (simple_place s) s))
 
     abbrev At_expr : Move
@@ -72,7 +72,7 @@ module _ (ed : Edition) (B : ℕ) where
 
     module _ (us : List Lexeme) (f : File) where
       abbrev Read : Type 0
-      Read = (x : Expected) × (s : Stmt) × (ws : List Lexeme) × IsStmt ed s (t ∷ us) ws × (l + stmt_height s ≤ B + 1) × Means ed B (next x s) ws f
+      Read = (x : Expected) × (s : Statement) × (ws : List Lexeme) × IsStmt ed s (t ∷ us) ws × (l + stmt_height s ≤ B + 1) × Means ed B (next x s) ws f
 
       return_back : t.kind ≡ keyword keywords.Return → l ≤ B → Means ed B (behind_return l (next another) t) us f → Read
       return_back k low m = elim m [
@@ -272,7 +272,7 @@ module _ (ed : Edition) (B : ℕ) where
           (Take l (behind_var (l + 1) (λ d. next another (declaration t.place d)) t)) At_return us f g.0 (omega (arith, le), g.1))
       decl_forth p (types q ss) ws d at no_types le m = absurd (false_true (sym no_types))
 
-      return_forth : (p : Place) (es : Exprs) (k : Lexeme) (vs ws : List Lexeme) → Token (keyword keywords.Return) k (t ∷ us) vs → p ≡ k.place →
+      return_forth : (p : Place) (es : ExpressionList) (k : Lexeme) (vs ws : List Lexeme) → Token (keyword keywords.Return) k (t ∷ us) vs → p ≡ k.place →
           ((es ≡ no_exprs) × (vs ≡ ws)) ⊎ AreExprs ed false es vs ws → l + (exprs_height es + 1) ≤ B + 1 → Means ed B (next another (return p es)) ws f →
           Means ed B (behind_return l (next another) k) vs f
       return_forth p es k vs ws d at (inl n) le m =
@@ -302,7 +302,7 @@ module _ (ed : Edition) (B : ℕ) where
             ),
           ))
 
-      stmt_forth : (s : Stmt) (ws : List Lexeme) → begins_stmt t.kind ≡ true → IsStmt ed s (t ∷ us) ws → l + stmt_height s ≤ B + 1 →
+      stmt_forth : (s : Statement) (ws : List Lexeme) → begins_stmt t.kind ≡ true → IsStmt ed s (t ∷ us) ws → l + stmt_height s ≤ B + 1 →
           ((x : Expected) → Means ed B (next x s) ws f) → After ed B At_const us f
       stmt_forth (empty p) ws b d le m = absurd (false_true (sym (ap begins_stmt (first_is semicolon t d.0 us d.1 d.2).2) ∙ b))
       stmt_forth (declaration p x) ws b d le m = decl_forth p x ws d.0 d.1 d.2 le (m another)
@@ -359,10 +359,10 @@ module _ (ed : Edition) (B : ℕ) where
           (omega (arith, le), y))
 
     -- it stays good
-    line : EndsStmt next → (x : Expected) (s : Stmt) (k : TokenKind) → begins (next x s) k ≡ true → ends_line k ≡ true
+    line : EndsStmt next → (x : Expected) (s : Statement) (k : TokenKind) → begins (next x s) k ≡ true → ends_line k ≡ true
     line ends x s k b = end_as k (ends x s k b) (λ j. ends_line j ≡ true) refl refl
 
-    return_good : l ≤ B → ((x : Expected) (s : Stmt) → l + stmt_height s ≤ B + 1 → Good ed B (next x s)) → EndsStmt next →
+    return_good : l ≤ B → ((x : Expected) (s : Statement) → l + stmt_height s ≤ B + 1 → Good ed B (next x s)) → EndsStmt next →
         Good ed B (behind_return l (next another) t)
     return_good low good ends =
         let none = good another (return t.place no_exprs) (omega (arith, low)) in
@@ -381,7 +381,7 @@ module _ (ed : Edition) (B : ℕ) where
           ),
         )
 
-    lefts_okay : ((x : Expected) (s : Stmt) → l + stmt_height s ≤ B + 1 → Good ed B (next x s)) → EndsStmt next → Okay ed B (expr 5 false (l + 1) a_statement Lefts)
+    lefts_okay : ((x : Expected) (s : Statement) → l + stmt_height s ≤ B + 1 → Good ed B (next x s)) → EndsStmt next → Okay ed B (expr 5 false (l + 1) a_statement Lefts)
     lefts_okay good ends =
         left_okay ed B in_list false (l + 1) (λ s. next another (simple (simple_place s) s))
         (λ a. next another (simple (simple_place (call_statement a)) (call_statement a)))
@@ -392,7 +392,7 @@ module _ (ed : Edition) (B : ℕ) where
         (refl, (λ _. refl), (refl, refl)) (refl, (λ _. refl), (refl, refl)))
         (λ never. absurd (false_true never)) (λ never. absurd (false_true never)) (λ never. absurd (false_true never))
 
-    stmt_kept : ((x : Expected) (s : Stmt) → l + stmt_height s ≤ B + 1 → Good ed B (next x s)) → EndsStmt next → Kept ed B At_const
+    stmt_kept : ((x : Expected) (s : Statement) → l + stmt_height s ≤ B + 1 → Good ed B (next x s)) → EndsStmt next → Kept ed B At_const
     stmt_kept good ends =
         kept_cond ed B (same (keyword keywords.Const) t.kind) (Take l (behind_const (l + 1) (λ d. next another (declaration t.place d)) t)) At_var
         (λ _ need. behind_const_good ed B (l + 1) (λ d. next another (declaration t.place d)) t (omega (arith, need))

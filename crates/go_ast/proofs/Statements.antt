@@ -4,10 +4,10 @@ use Rattle.go_text.specs.declared.edition.Edition.{Edition}
 use Rattle.go_scan.specs.declared.token.TokenKind.{TokenKind}
 use Rattle.go_ast.specs.Kinds.{same}
 use Rattle.go_ast.specs.Expected.{Expected, another}
-use Rattle.go_ast.specs.Trees.{Stmt, empty, File}
+use Rattle.go_ast.specs.Trees.{Statement, empty, File}
 use Rattle.go_ast.specs.Heights.{stmt_height}
 use Rattle.go_ast.specs.Grammar.{Lexeme, Token, closing_brace, semicolon, Behind, AreItems, IsStmt}
-use Rattle.go_ast.specs.Machine.{statements, State, list_start, list_end, Move, Take, cond, on_stmt}
+use Rattle.go_ast.specs.Machine.{statements, Reader, list_start, list_end, Move, Take, cond, on_stmt}
 use Rattle.go_ast.proofs.Same.{are_same}
 use Rattle.go_ast.proofs.Means.{begins_stmt, begins, AllFit, Means, Good, After, Kept}
 use Rattle.go_ast.proofs.Base.{false_true, left_true, right_true, after_cond, kept_cond, after_same, after_other, token_here, apart}
@@ -19,26 +19,26 @@ use Rattle.go_ast.proofs.Starts.{stmt_starts}
 
 -- what is known of a statement that isn't empty
 pub record OnStmt (ed : Edition) (B : ℕ) : Type 0 where
-  pub back : (l : ℕ) (next : Expected → Stmt → State) (t : Lexeme) (us : List Lexeme) (f : File) → l ≤ B + 1 → After ed B (on_stmt l next t) us f →
-      (x : Expected) × (s : Stmt) × (ws : List Lexeme) × IsStmt ed s (t ∷ us) ws × (l + stmt_height s ≤ B + 1) × Means ed B (next x s) ws f
-  pub forth : (l : ℕ) (next : Expected → Stmt → State) (s : Stmt) (t : Lexeme) (us ws : List Lexeme) (f : File) → begins_stmt t.kind ≡ true →
+  pub back : (l : ℕ) (next : Expected → Statement → Reader) (t : Lexeme) (us : List Lexeme) (f : File) → l ≤ B + 1 → After ed B (on_stmt l next t) us f →
+      (x : Expected) × (s : Statement) × (ws : List Lexeme) × IsStmt ed s (t ∷ us) ws × (l + stmt_height s ≤ B + 1) × Means ed B (next x s) ws f
+  pub forth : (l : ℕ) (next : Expected → Statement → Reader) (s : Statement) (t : Lexeme) (us ws : List Lexeme) (f : File) → begins_stmt t.kind ≡ true →
       IsStmt ed s (t ∷ us) ws →
       l + stmt_height s ≤ B + 1 → ((x : Expected) → Means ed B (next x s) ws f) → After ed B (on_stmt l next t) us f
-  pub kept : (l : ℕ) (next : Expected → Stmt → State) (t : Lexeme) → l ≤ B + 1 → ((x : Expected) (s : Stmt) → l + stmt_height s ≤ B + 1 → Good ed B (next x s)) →
-      ((x : Expected) (s : Stmt) (k : TokenKind) → begins (next x s) k ≡ true → (same semicolon k || same closing_brace k) ≡ true) → Kept ed B (on_stmt l next t)
+  pub kept : (l : ℕ) (next : Expected → Statement → Reader) (t : Lexeme) → l ≤ B + 1 → ((x : Expected) (s : Statement) → l + stmt_height s ≤ B + 1 → Good ed B (next x s)) →
+      ((x : Expected) (s : Statement) (k : TokenKind) → begins (next x s) k ≡ true → (same semicolon k || same closing_brace k) ≡ true) → Kept ed B (on_stmt l next t)
 
 pub empty_is : (ed : Edition) → (t : Lexeme) (us : List Lexeme) → t.kind ≡ semicolon → IsStmt ed (empty t.place) (t ∷ us) (t ∷ us)
 empty_is ed t us e = (t, us, token_here semicolon t us e, refl, refl)
 
 module _ (ed : Edition) (B : ℕ) (on : OnStmt ed B) where
   -- statements of a block
-  abbrev behind_stmt : ℕ → List Stmt → (List Stmt → Lexeme → State) → Expected → Stmt → State
+  abbrev behind_stmt : ℕ → List Statement → (List Statement → Lexeme → Reader) → Expected → Statement → Reader
   behind_stmt l front next x s = list_end (statements l) x (front ++ s ∷ []) next
 
-  abbrev behind_empty : ℕ → List Stmt → (List Stmt → Lexeme → State) → Lexeme → Move
+  abbrev behind_empty : ℕ → List Statement → (List Statement → Lexeme → Reader) → Lexeme → Move
   behind_empty l front next t = Take l (list_start (statements l) (front ++ empty t.place ∷ []) next)
 
-  item_forth : (l : ℕ) (front : List Stmt) (next : List Stmt → Lexeme → State) (t : Lexeme) (us : List Lexeme) (f : File) (s : Stmt) (vs : List Lexeme) →
+  item_forth : (l : ℕ) (front : List Statement) (next : List Statement → Lexeme → Reader) (t : Lexeme) (us : List Lexeme) (f : File) (s : Statement) (vs : List Lexeme) →
       IsStmt ed s (t ∷ us) vs →
       l + stmt_height s ≤ B + 1 → Means ed B (list_end (statements l) another (front ++ s ∷ []) next) vs f →
       ((s ≡ empty t.place) × (t.kind ≡ semicolon) × (t ∷ us ≡ vs)) ⊎ (begins_stmt t.kind ≡ true) →
@@ -58,7 +58,7 @@ module _ (ed : Edition) (B : ℕ) (on : OnStmt ed B) where
       (on_stmt l (behind_stmt l front next) t) us f k
       (omega (arith, tall), behind n.0 n.1 n.2 n.3 n.4 n.5 n.6 n.7)
     where
-      behind : (ss : List Stmt) (c : Lexeme) (xs ws : List Lexeme) → Behind semicolon (AreItems (IsStmt ed) semicolon ss) (ss ≡ []) (t ∷ us) xs →
+      behind : (ss : List Statement) (c : Lexeme) (xs ws : List Lexeme) → Behind semicolon (AreItems (IsStmt ed) semicolon ss) (ss ≡ []) (t ∷ us) xs →
           AllFit ed B stmt_height l ss → Token closing_brace c xs ws →
           Means ed B (next ((front ++ empty t.place ∷ []) ++ ss) c) ws f → Means ed B (list_start (statements l) (front ++ empty t.place ∷ []) next) us f
       behind ss c xs ws (inl b) fit close m =
@@ -93,7 +93,7 @@ module _ (ed : Edition) (B : ℕ) (on : OnStmt ed B) where
         never = λ s vs d. stmt_never ed s vs d;
       }
     where
-      starts : (s : Stmt) (t : Lexeme) (us vs : List Lexeme) → ((s ≡ empty t.place) × (t.kind ≡ semicolon) × (t ∷ us ≡ vs)) ⊎ (begins_stmt t.kind ≡ true) →
+      starts : (s : Statement) (t : Lexeme) (us vs : List Lexeme) → ((s ≡ empty t.place) × (t.kind ≡ semicolon) × (t ∷ us ≡ vs)) ⊎ (begins_stmt t.kind ≡ true) →
           (same semicolon t.kind || begins_stmt t.kind) ≡ true
       starts s t us vs (inl e) = left_true (same semicolon t.kind) (begins_stmt t.kind) (ap (same semicolon) e.1)
       starts s t us vs (inr e) = right_true (same semicolon t.kind) (begins_stmt t.kind) e

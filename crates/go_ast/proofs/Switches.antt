@@ -4,10 +4,10 @@ use Rattle.go_text.specs.declared.edition.Edition.{Edition}
 use Rattle.go_text.specs.declared.place.Place.{Place}
 use Rattle.go_scan.specs.declared.keyword.Keyword.TheVariants as keywords
 use Rattle.go_ast.specs.Expected.{an_operand, another}
-use Rattle.go_ast.specs.Trees.{Expr, Simple, Stmt, switch_statement, Clauses, File}
+use Rattle.go_ast.specs.Trees.{Expression, Simple, Statement, switch_statement, Cases, File}
 use Rattle.go_ast.specs.Heights.{height, lifted, simple_height, stmt_height}
 use Rattle.go_ast.specs.Grammar.{Lexeme, Token, semicolon, opening_brace, closing_brace, IsExpr, IsExpr?, IsStart, IsStmt, AreClauses}
-use Rattle.go_ast.specs.Machine.{in_header, State, token, expr, keyword, switch_body, switch_tag, behind_switch}
+use Rattle.go_ast.specs.Machine.{in_header, Reader, token, expr, keyword, switch_body, switch_tag, behind_switch}
 use Rattle.go_ast.proofs.Means.{IsFirst, Means, Okay, Good}
 use Rattle.go_ast.proofs.Base.{false_true, token_here}
 use Rattle.go_ast.proofs.Values.{ends_if}
@@ -18,14 +18,14 @@ use Rattle.go_ast.proofs.Ifs.{brace_closes, semicolon_ends}
 
 module _ (ed : Edition) (B : ℕ) where
   -- the value and the clauses
-  abbrev Tag : ℕ → Place → (Stmt → State) → Option Simple → List Lexeme → File → Type 0
+  abbrev Tag : ℕ → Place → (Statement → Reader) → Option Simple → List Lexeme → File → Type 0
   Tag l p next i us f =
-      (tag : Option Expr) × (cs : Clauses) × (o c : Lexeme) × (ys zs xs ws : List Lexeme) × IsExpr? ed tag us ys × Token opening_brace o ys zs
+      (tag : Option Expression) × (cs : Cases) × (o c : Lexeme) × (ys zs xs ws : List Lexeme) × IsExpr? ed tag us ys × Token opening_brace o ys zs
       × AreClauses ed cs zs xs
       × Token closing_brace c xs ws × (l + stmt_height (switch_statement p i tag cs) ≤ B + 1) × Means ed B (next (switch_statement p i tag cs)) ws f
 
   -- behind the brace
-  with_tag : (l : ℕ) (p : Place) (next : Stmt → State) (i : Option Simple) (tag : Option Expr) (o : Lexeme) (us ys zs : List Lexeme) (f : File) → l ≤ B →
+  with_tag : (l : ℕ) (p : Place) (next : Statement → Reader) (i : Option Simple) (tag : Option Expression) (o : Lexeme) (us ys zs : List Lexeme) (f : File) → l ≤ B →
       l + 1 + lifted simple_height i ≤ B + 1 → l + 1 + lifted height tag ≤ B + 1 → IsExpr? ed tag us ys → Token opening_brace o ys zs →
       Means ed B (switch_body l p next i tag) zs f →
       Tag l p next i us f
@@ -33,17 +33,17 @@ module _ (ed : Edition) (B : ℕ) where
       let g = clauses_at_back ed B l (λ cs _. next (switch_statement p i tag cs)) zs f low m in
       (tag, g.0, o, g.1, ys, zs, g.2, g.3, d, k, g.4, g.6, omega (arith, hi, ht, g.5), g.7)
 
-  tag_back : (l : ℕ) (p : Place) (next : Stmt → State) (i : Option Simple) (us : List Lexeme) (f : File) → l ≤ B → l + 1 + lifted simple_height i ≤ B + 1 →
+  tag_back : (l : ℕ) (p : Place) (next : Statement → Reader) (i : Option Simple) (us : List Lexeme) (f : File) → l ≤ B → l + 1 + lifted simple_height i ≤ B + 1 →
       Means ed B (switch_tag l p next i) us f → Tag l p next i us f
   tag_back l p next i us f low hi m = elim m [
     | inl a ↦ with_tag l p next i None a.0 us us a.1 f low hi (omega (arith, low)) refl a.2 a.4
     | inr a ↦ (let b = a.4 in with_tag l p next i (Some a.0) b.0 us a.1 b.1 f low hi a.3 a.2 b.2 b.4)
   ]
 
-  abbrev SwitchRead : ℕ → (Stmt → State) → List Lexeme → File → Type 0
-  SwitchRead l next us f = (s : Stmt) × (ws : List Lexeme) × IsStmt ed s us ws × (l + stmt_height s ≤ B + 1) × Means ed B (next s) ws f
+  abbrev SwitchRead : ℕ → (Statement → Reader) → List Lexeme → File → Type 0
+  SwitchRead l next us f = (s : Statement) × (ws : List Lexeme) × IsStmt ed s us ws × (l + stmt_height s ≤ B + 1) × Means ed B (next s) ws f
 
-  with_start : (l : ℕ) (next : Stmt → State) (t : Lexeme) (i : Option Simple) (us vs : List Lexeme) (f : File) → t.kind ≡ keyword keywords.Switch →
+  with_start : (l : ℕ) (next : Statement → Reader) (t : Lexeme) (i : Option Simple) (us vs : List Lexeme) (f : File) → t.kind ≡ keyword keywords.Switch →
       IsStart ed i us vs →
       Tag l t.place next i vs f → SwitchRead l next (t ∷ us) f
   with_start l next t i us vs f k start g = (
@@ -54,7 +54,7 @@ module _ (ed : Edition) (B : ℕ) where
     g.13,
   )
 
-  pub switch_back : (l : ℕ) (next : Stmt → State) (t : Lexeme) (us : List Lexeme) (f : File) → l ≤ B → t.kind ≡ keyword keywords.Switch →
+  pub switch_back : (l : ℕ) (next : Statement → Reader) (t : Lexeme) (us : List Lexeme) (f : File) → l ≤ B → t.kind ≡ keyword keywords.Switch →
       Means ed B (behind_switch l next t) us f → SwitchRead l next (t ∷ us) f
   switch_back l next t us f low k m = elim m [
     | inl a ↦ with_start l next t None us us f k (inl refl)
@@ -76,14 +76,14 @@ module _ (ed : Edition) (B : ℕ) where
   ]
 
   -- the other way round
-  body_forth : (l : ℕ) (p : Place) (next : Stmt → State) (i : Option Simple) (tag : Option Expr) (cs : Clauses) (c : Lexeme) (us xs ws : List Lexeme)
+  body_forth : (l : ℕ) (p : Place) (next : Statement → Reader) (i : Option Simple) (tag : Option Expression) (cs : Cases) (c : Lexeme) (us xs ws : List Lexeme)
       (f : File) →
       AreClauses ed cs us xs → Token closing_brace c xs ws → l + stmt_height (switch_statement p i tag cs) ≤ B + 1 →
       Means ed B (next (switch_statement p i tag cs)) ws f →
       Means ed B (switch_body l p next i tag) us f
   body_forth l p next i tag cs c us xs ws f d k le m = clauses_at_forth ed B l (λ x _. next (switch_statement p i tag x)) cs c us xs ws f d (omega (arith, le)) k m
 
-  tag_forth : (l : ℕ) (p : Place) (next : Stmt → State) (i : Option Simple) (tag : Option Expr) (cs : Clauses) (o c : Lexeme) (us ys zs xs ws : List Lexeme)
+  tag_forth : (l : ℕ) (p : Place) (next : Statement → Reader) (i : Option Simple) (tag : Option Expression) (cs : Cases) (o c : Lexeme) (us ys zs xs ws : List Lexeme)
       (f : File) →
       IsExpr? ed tag us ys → Token opening_brace o ys zs → AreClauses ed cs zs xs → Token closing_brace c xs ws →
       l + stmt_height (switch_statement p i tag cs) ≤ B + 1 →
@@ -93,7 +93,7 @@ module _ (ed : Edition) (B : ℕ) where
   tag_forth l p next i (Some e) cs o c us ys zs xs ws f d k q r le m =
       inr (e, ys, d, omega (arith, le), (o, zs, k, omega arith, body_forth l p next i (Some e) cs c zs xs ws f q r le m))
 
-  start_forth : (l : ℕ) (next : Stmt → State) (t : Lexeme) (i : Option Simple) (tag : Option Expr) (cs : Clauses) (o c : Lexeme)
+  start_forth : (l : ℕ) (next : Statement → Reader) (t : Lexeme) (i : Option Simple) (tag : Option Expression) (cs : Cases) (o c : Lexeme)
       (us vs ys zs xs ws : List Lexeme) (f : File) →
       IsStart ed i us vs → IsExpr? ed tag vs ys → Token opening_brace o ys zs → AreClauses ed cs zs xs → Token closing_brace c xs ws →
       l + stmt_height (switch_statement t.place i tag cs) ≤ B + 1 → Means ed B (next (switch_statement t.place i tag cs)) ws f →
@@ -133,7 +133,7 @@ module _ (ed : Edition) (B : ℕ) where
         ),
       ))
 
-  pub switch_forth : (l : ℕ) (next : Stmt → State) (p : Place) (i : Option Simple) (tag : Option Expr) (cs : Clauses) (us ws : List Lexeme) (f : File) →
+  pub switch_forth : (l : ℕ) (next : Statement → Reader) (p : Place) (i : Option Simple) (tag : Option Expression) (cs : Cases) (us ws : List Lexeme) (f : File) →
       IsStmt ed (switch_statement p i tag cs) us ws → l + stmt_height (switch_statement p i tag cs) ≤ B + 1 → Means ed B (next (switch_statement p i tag cs)) ws f →
       (t : Lexeme) × (vs : List Lexeme) × Token (keyword keywords.Switch) t us vs × Means ed B (behind_switch l next t) vs f
   switch_forth l next p i tag cs us ws f d le m = (
@@ -145,14 +145,14 @@ module _ (ed : Edition) (B : ℕ) where
   )
 
   -- it is good
-  body_good : (l : ℕ) (p : Place) (next : Stmt → State) (i : Option Simple) (tag : Option Expr) → l ≤ B → l + 1 + lifted simple_height i ≤ B + 1 →
+  body_good : (l : ℕ) (p : Place) (next : Statement → Reader) (i : Option Simple) (tag : Option Expression) → l ≤ B → l + 1 + lifted simple_height i ≤ B + 1 →
       l + 1 + lifted height tag ≤ B + 1 →
-      ((s : Stmt) → l + stmt_height s ≤ B + 1 → Good ed B (next s)) → Good ed B (switch_body l p next i tag)
+      ((s : Statement) → l + stmt_height s ≤ B + 1 → Good ed B (next s)) → Good ed B (switch_body l p next i tag)
   body_good l p next i tag low hi ht good =
       clauses_at_good ed B l (λ cs _. next (switch_statement p i tag cs)) low (λ cs c fit. good (switch_statement p i tag cs) (omega (arith, hi, ht, fit)))
 
-  tag_good : (l : ℕ) (p : Place) (next : Stmt → State) (i : Option Simple) → l ≤ B → l + 1 + lifted simple_height i ≤ B + 1 →
-      ((s : Stmt) → l + stmt_height s ≤ B + 1 → Good ed B (next s)) →
+  tag_good : (l : ℕ) (p : Place) (next : Statement → Reader) (i : Option Simple) → l ≤ B → l + 1 + lifted simple_height i ≤ B + 1 →
+      ((s : Statement) → l + stmt_height s ≤ B + 1 → Good ed B (next s)) →
       Okay ed B (expr 5 true (l + 1) an_operand (λ e. token opening_brace 0 another (λ _. switch_body l p next i (Some e)))) × Good ed B (switch_tag l p next i)
   tag_good l p next i low hi good =
       let okay : Okay ed B (expr 5 true (l + 1) an_operand (λ e. token opening_brace 0 another (λ _. switch_body l p next i (Some e)))) = (
@@ -161,7 +161,7 @@ module _ (ed : Edition) (B : ℕ) where
       ) in
       (okay, (inl (omega arith), ((λ _ k need. body_good l p next i None low hi (omega (arith, low)) good), okay, refl)))
 
-  pub switch_good : (l : ℕ) (next : Stmt → State) (t : Lexeme) → l ≤ B → ((s : Stmt) → l + stmt_height s ≤ B + 1 → Good ed B (next s)) →
+  pub switch_good : (l : ℕ) (next : Statement → Reader) (t : Lexeme) → l ≤ B → ((s : Statement) → l + stmt_height s ≤ B + 1 → Good ed B (next s)) →
       Good ed B (behind_switch l next t)
   switch_good l next t low good = (
     inl (omega arith),

@@ -6,7 +6,7 @@ use Rattle.std.proofs.lemmas.Bool.Decides.{nat_tests}
 use Rattle.go_text.specs.declared.edition.Edition.{Edition}
 use Rattle.go_ast.specs.Trees.{File}
 use Rattle.go_ast.specs.Grammar.{Lexeme, Derives}
-use Rattle.go_ast.specs.Machine.{start, Outcome, Done, Refused, run}
+use Rattle.go_ast.specs.Machine.{start, ParseOutcome, Done, Refused, run_parser}
 use Rattle.go_ast.specs.Stops.{IsFault, StopsAt}
 use Rattle.go_ast.proofs.StatementTokens.{statement_known}
 use Rattle.go_ast.proofs.All.{all}
@@ -19,10 +19,10 @@ pub theory : (ed : Edition) → (B : ℕ) → Theory ed B
 theory ed B = all ed B (statement_known ed B)
 
 -- a list of tokens that is taken is derived, and the other way round
-pub taken_derived : (ed : Edition) → (B : ℕ) (ts : List Lexeme) (f : File) → 1 ≤ B → run ed B start ts ≡ Done f → Derives ed B ts f
+pub taken_derived : (ed : Edition) → (B : ℕ) (ts : List Lexeme) (f : File) → 1 ≤ B → run_parser ed B start ts ≡ Done f → Derives ed B ts f
 taken_derived ed B ts f one e = final.is_derived ed B (theory ed B) ts f one e
 
-pub derived_taken : (ed : Edition) → (B : ℕ) (ts : List Lexeme) (f : File) → 1 ≤ B → Derives ed B ts f → run ed B start ts ≡ Done f
+pub derived_taken : (ed : Edition) → (B : ℕ) (ts : List Lexeme) (f : File) → 1 ≤ B → Derives ed B ts f → run_parser ed B start ts ≡ Done f
 derived_taken ed B ts f one d = final.is_done ed B (theory ed B) ts f one d
 
 -- tokens are at most one file
@@ -32,13 +32,13 @@ one_file ed m n ts f g d e =
     final.only_one ed C (theory ed C) ts f g (omega arith) (larger ed m C ts f (omega arith) d) (larger ed n C ts g (omega arith) e)
 
 -- where a list is refused it stops being a file, and the other way round
-pub refused_stops : (ed : Edition) → (B : ℕ) (ts : List Lexeme) (n : ℕ) (bad : List Lexeme) → 1 ≤ B → run ed B start ts ≡ Refused n bad → StopsAt ed B ts n bad
+pub refused_stops : (ed : Edition) → (B : ℕ) (ts : List Lexeme) (n : ℕ) (bad : List Lexeme) → 1 ≤ B → run_parser ed B start ts ≡ Refused n bad → StopsAt ed B ts n bad
 refused_stops ed B ts n bad one e = final.stops_at ed (theory ed) (told ed (theory ed)) B ts n bad one e
 
-pub stops_refused : (ed : Edition) → (B : ℕ) (ts : List Lexeme) (n : ℕ) (bad : List Lexeme) → 1 ≤ B → StopsAt ed B ts n bad → run ed B start ts ≡ Refused n bad
-stops_refused ed B ts n bad one s = by_outcome (run ed B start ts) refl
+pub stops_refused : (ed : Edition) → (B : ℕ) (ts : List Lexeme) (n : ℕ) (bad : List Lexeme) → 1 ≤ B → StopsAt ed B ts n bad → run_parser ed B start ts ≡ Refused n bad
+stops_refused ed B ts n bad one s = by_outcome (run_parser ed B start ts) refl
   where
-    by_outcome : (o : Outcome) → run ed B start ts ≡ o → run ed B start ts ≡ Refused n bad
+    by_outcome : (o : ParseOutcome) → run_parser ed B start ts ≡ o → run_parser ed B start ts ≡ Refused n bad
     by_outcome (Done f) e = absurd (not_both ed B ts f n bad (taken_derived ed B ts f one e) s)
     by_outcome (Refused m ys) e =
         let same = only_stop ed B ts m n ys bad (refused_stops ed B ts m ys one e) s in
@@ -46,9 +46,9 @@ stops_refused ed B ts n bad one s = by_outcome (run ed B start ts) refl
 
 -- each list of tokens is a file or stops being one
 pub file_or_stop : (ed : Edition) → (B : ℕ) (ts : List Lexeme) → 1 ≤ B → ((f : File) × Derives ed B ts f) ⊎ ((n : ℕ) × (bad : List Lexeme) × StopsAt ed B ts n bad)
-file_or_stop ed B ts one = by_outcome (run ed B start ts) refl
+file_or_stop ed B ts one = by_outcome (run_parser ed B start ts) refl
   where
-    by_outcome : (o : Outcome) → run ed B start ts ≡ o → ((f : File) × Derives ed B ts f) ⊎ ((n : ℕ) × (bad : List Lexeme) × StopsAt ed B ts n bad)
+    by_outcome : (o : ParseOutcome) → run_parser ed B start ts ≡ o → ((f : File) × Derives ed B ts f) ⊎ ((n : ℕ) × (bad : List Lexeme) × StopsAt ed B ts n bad)
     by_outcome (Done f) e = inl (f, taken_derived ed B ts f one e)
     by_outcome (Refused n bad) e = inr (n, bad, refused_stops ed B ts n bad one e)
 

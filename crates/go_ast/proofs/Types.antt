@@ -8,10 +8,10 @@ use Rattle.go_scan.specs.declared.keyword.Keyword.TheVariants as keywords
 use Rattle.go_ast.specs.Kinds.{same}
 use Rattle.go_ast.specs.Operators.{binary_of}
 use Rattle.go_ast.specs.Expected.{Expected}
-use Rattle.go_ast.specs.Trees.{Name, TypeExpr, named, qualified, array, slice, struct, Fields, Expr, File, pack_fields}
+use Rattle.go_ast.specs.Trees.{Name, TypeExpr, named, qualified, array, slice, struct, FieldDecls, Expression, File, pack_fields}
 use Rattle.go_ast.specs.Heights.{type_height}
 use Rattle.go_ast.specs.Grammar.{Lexeme, Token, name_of, opening_bracket, closing_bracket, opening_brace, period, IsType, IsExpr, is_named}
-use Rattle.go_ast.specs.Machine.{State, type, Move, Take, Fail, cond, keyword, begins_type, behind_name, behind_bracket, behind_struct, on_type, step}
+use Rattle.go_ast.specs.Machine.{Reader, type, Move, Take, Fail, cond, keyword, begins_type, behind_name, behind_bracket, behind_struct, on_type, parser_step}
 use Rattle.go_ast.proofs.Same.{are_same}
 use Rattle.go_ast.proofs.Means.{is_tail, begins, Means, Okay, Good, After, Kept, Comes}
 use Rattle.go_ast.proofs.Base.{after_cond, kept_cond, token_here, first_is}
@@ -41,19 +41,19 @@ type_never ed (struct p fs) ws d = no_token (keyword keywords.Struct) d.0 d.3 d.
 
 module _ (ed : Edition) (B : ℕ) where
   -- equal trees and equal tokens lead on alike
-  pub led : {A : Type 0} → (next : A → State) (a b : A) (us ws : List Lexeme) (f : File) → a ≡ b → us ≡ ws → Means ed B (next b) ws f → Means ed B (next a) us f
+  pub led : {A : Type 0} → (next : A → Reader) (a b : A) (us ws : List Lexeme) (f : File) → a ≡ b → us ≡ ws → Means ed B (next b) ws f → Means ed B (next a) us f
   led next a b us ws f p q m = subst₂ (λ x y. Means ed B (next x) y f) (sym p) (sym q) m
 
   -- a type's tokens, that it fits, and what is behind it
-  abbrev pub Typed : ℕ → (TypeExpr → State) → List Lexeme → File → Type 0
+  abbrev pub Typed : ℕ → (TypeExpr → Reader) → List Lexeme → File → Type 0
   Typed l next us f = (a : TypeExpr) × (ws : List Lexeme) × IsType ed a us ws × (l + type_height a ≤ B + 1) × Means ed B (next a) ws f
 
-  abbrev pub Unnamed : ℕ → (TypeExpr → State) → List Lexeme → File → Type 0
+  abbrev pub Unnamed : ℕ → (TypeExpr → Reader) → List Lexeme → File → Type 0
   Unnamed l next us f =
       (a : TypeExpr) × (ws : List Lexeme) × IsType ed a us ws × (l + type_height a ≤ B + 1) × Means ed B (next a) ws f × (is_named a ≡ false)
 
   -- from what is due behind a first token to a type
-  pub behind_name_back : (l : ℕ) (next : TypeExpr → State) (t : Lexeme) (us : List Lexeme) (f : File) → t.kind ≡ kinds.Name → l ≤ B →
+  pub behind_name_back : (l : ℕ) (next : TypeExpr → Reader) (t : Lexeme) (us : List Lexeme) (f : File) → t.kind ≡ kinds.Name → l ≤ B →
       Means ed B (behind_name next t) us f → Typed l next (t ∷ us) f
   behind_name_back l next t us f e le m = elim m [
     | inl h ↦ (let s = h.4 in
@@ -61,7 +61,7 @@ module _ (ed : Edition) (B : ℕ) where
     | inr h ↦ (named t.place (name_of t), us, (t, token_here kinds.Name t us e, refl, refl), omega arith, h)
   ]
 
-  pub behind_bracket_back : (l : ℕ) (next : TypeExpr → State) (t : Lexeme) (us : List Lexeme) (f : File) → t.kind ≡ opening_bracket →
+  pub behind_bracket_back : (l : ℕ) (next : TypeExpr → Reader) (t : Lexeme) (us : List Lexeme) (f : File) → t.kind ≡ opening_bracket →
       Means ed B (behind_bracket l next t) us f → Unnamed l next (t ∷ us) f
   behind_bracket_back l next t us f e m = elim m [
     | inl k ↦ (let a = k.4 in
@@ -71,7 +71,7 @@ module _ (ed : Edition) (B : ℕ) where
         (array t.place x.0 a.0, a.1, (t, c.0, us, x.1, c.1, token_here opening_bracket t us e, refl, x.2, c.2, a.2), omega (arith, x.3, a.3), a.4, refl))
   ]
 
-  pub behind_struct_back : (l : ℕ) (next : TypeExpr → State) (t : Lexeme) (us : List Lexeme) (f : File) → t.kind ≡ keyword keywords.Struct → l ≤ B →
+  pub behind_struct_back : (l : ℕ) (next : TypeExpr → Reader) (t : Lexeme) (us : List Lexeme) (f : File) → t.kind ≡ keyword keywords.Struct → l ≤ B →
       Means ed B (behind_struct l next t) us f → Unnamed l next (t ∷ us) f
   behind_struct_back l next t us f e le m =
       let i = m.4 in (
@@ -84,7 +84,7 @@ module _ (ed : Edition) (B : ℕ) where
       )
 
   -- and back
-  pub named_forth : (next : TypeExpr → State) (t : Lexeme) (us ws : List Lexeme) (f : File) (p : Place) (n : Name) →
+  pub named_forth : (next : TypeExpr → Reader) (t : Lexeme) (us ws : List Lexeme) (f : File) (p : Place) (n : Name) →
       IsType ed (named p n) (t ∷ us) ws → Means ed B (next (named p n)) ws f → Means ed B (behind_name next t) us f
   named_forth next t us ws f p n d m =
       let e = first_is kinds.Name t d.0 us ws d.1 in
@@ -93,7 +93,7 @@ module _ (ed : Edition) (B : ℕ) where
       let text : n ≡ name_of t = d.3 ∙ ap name_of (sym first) in
       inr (led next (named t.place (name_of t)) (named p n) us ws f (cc (place, text)) e.1 m)
 
-  pub qualified_forth : (next : TypeExpr → State) (t : Lexeme) (us ws : List Lexeme) (f : File) (p : Place) (o n : Name) →
+  pub qualified_forth : (next : TypeExpr → Reader) (t : Lexeme) (us ws : List Lexeme) (f : File) (p : Place) (o n : Name) →
       IsType ed (qualified p o n) (t ∷ us) ws → Means ed B (next (qualified p o n)) ws f → Means ed B (behind_name next t) us f
   qualified_forth next t us ws f p o n d m =
       let e = first_is kinds.Name t d.0 us d.3 d.5 in
@@ -109,7 +109,7 @@ module _ (ed : Edition) (B : ℕ) where
         (d.2, ws, d.7, omega arith, led next (qualified t.place (name_of t) (name_of d.2)) (qualified p o n) ws ws f (cc (place, text, other)) refl m),
       )
 
-  pub array_forth : (l : ℕ) (next : TypeExpr → State) (t : Lexeme) (us ws : List Lexeme) (f : File) (p : Place) (x : Expr) (a : TypeExpr) →
+  pub array_forth : (l : ℕ) (next : TypeExpr → Reader) (t : Lexeme) (us ws : List Lexeme) (f : File) (p : Place) (x : Expression) (a : TypeExpr) →
       IsType ed (array p x a) (t ∷ us) ws → l + type_height (array p x a) ≤ B + 1 → Means ed B (next (array p x a)) ws f → Means ed B (behind_bracket l next t) us f
   array_forth l next t us ws f p x a d le m =
       let e = first_is opening_bracket t d.0 us d.2 d.5 in
@@ -123,7 +123,7 @@ module _ (ed : Edition) (B : ℕ) where
         (d.1, d.4, d.8, omega arith, (a, ws, d.9, omega arith, led next (array t.place x a) (array p x a) ws ws f (cc (place)) refl m)),
       )
 
-  pub slice_forth : (l : ℕ) (next : TypeExpr → State) (t : Lexeme) (us ws : List Lexeme) (f : File) (p : Place) (a : TypeExpr) →
+  pub slice_forth : (l : ℕ) (next : TypeExpr → Reader) (t : Lexeme) (us ws : List Lexeme) (f : File) (p : Place) (a : TypeExpr) →
       IsType ed (slice p a) (t ∷ us) ws → l + type_height (slice p a) ≤ B + 1 → Means ed B (next (slice p a)) ws f → Means ed B (behind_bracket l next t) us f
   slice_forth l next t us ws f p a d le m =
       let e = first_is opening_bracket t d.0 us d.2 d.5 in
@@ -137,7 +137,7 @@ module _ (ed : Edition) (B : ℕ) where
         d.4,
       )
 
-  pub struct_forth : (l : ℕ) (next : TypeExpr → State) (t : Lexeme) (us ws : List Lexeme) (f : File) (p : Place) (fs : Fields) →
+  pub struct_forth : (l : ℕ) (next : TypeExpr → Reader) (t : Lexeme) (us ws : List Lexeme) (f : File) (p : Place) (fs : FieldDecls) →
       IsType ed (struct p fs) (t ∷ us) ws → l + type_height (struct p fs) ≤ B + 1 → Means ed B (next (struct p fs)) ws f → Means ed B (behind_struct l next t) us f
   struct_forth l next t us ws f p fs d le m =
       let e = first_is (keyword keywords.Struct) t d.0 us d.3 d.6 in
@@ -161,21 +161,21 @@ module _ (ed : Edition) (B : ℕ) where
       )
 
   -- a move by the kind of the first token
-  abbrev type_at : ℕ → Expected → (TypeExpr → State) → Lexeme → TokenKind → Move
+  abbrev type_at : ℕ → Expected → (TypeExpr → Reader) → Lexeme → TokenKind → Move
   type_at l x next t k =
       cond (same kinds.Name k) (Take l (behind_name next t))
       (cond (same opening_bracket k) (Take (l + 1) (behind_bracket l next t))
       (cond (same (keyword keywords.Struct) k) (Take l (behind_struct l next t)) (Fail x)))
 
-  type_by : (l : ℕ) (x : Expected) (next : TypeExpr → State) (t : Lexeme) (us : List Lexeme) (f : File) (k : TokenKind) → t.kind ≡ k →
+  type_by : (l : ℕ) (x : Expected) (next : TypeExpr → Reader) (t : Lexeme) (us : List Lexeme) (f : File) (k : TokenKind) → t.kind ≡ k →
       After ed B (type_at l x next t k) us f → After ed B (on_type l x next t) us f
   type_by l x next t us f k e a = subst (λ y. After ed B (type_at l x next t y) us f) (sym e) a
 
-  named_type : (l : ℕ) (next : TypeExpr → State) (us : List Lexeme) (f : File) → Unnamed l next us f → Typed l next us f
+  named_type : (l : ℕ) (next : TypeExpr → Reader) (us : List Lexeme) (f : File) → Unnamed l next us f → Typed l next us f
   named_type l next us f r = (r.0, r.1, r.2, r.3, r.4)
 
   -- the state
-  pub on_type_back : (l : ℕ) (x : Expected) (next : TypeExpr → State) (t : Lexeme) (us : List Lexeme) (f : File) →
+  pub on_type_back : (l : ℕ) (x : Expected) (next : TypeExpr → Reader) (t : Lexeme) (us : List Lexeme) (f : File) →
       After ed B (on_type l x next t) us f → Typed l next (t ∷ us) f
   on_type_back l x next t us f a = elim (after_cond ed B (same kinds.Name t.kind) _ _ us f a) [
     | inl h ↦ behind_name_back l next t us f (are_same kinds.Name t.kind h.0) h.1.0 h.1.1
@@ -188,7 +188,7 @@ module _ (ed : Edition) (B : ℕ) where
     ]
   ]
 
-  pub on_type_forth : (l : ℕ) (x : Expected) (next : TypeExpr → State) (t : Lexeme) (us : List Lexeme) (f : File) →
+  pub on_type_forth : (l : ℕ) (x : Expected) (next : TypeExpr → Reader) (t : Lexeme) (us : List Lexeme) (f : File) →
       Typed l next (t ∷ us) f → After ed B (on_type l x next t) us f
   on_type_forth l x next t us f m = by_type m.0 m.1 m.2 m.3 m.4
     where
@@ -209,7 +209,7 @@ module _ (ed : Edition) (B : ℕ) where
           (omega arith, struct_forth l next t us ws f p fs d le m)
 
   -- what is due behind the first token is good
-  pub behind_name_good : (l : ℕ) (x : Expected) (next : TypeExpr → State) (t : Lexeme) → l ≤ B → Okay ed B (type l x next) → Good ed B (behind_name next t)
+  pub behind_name_good : (l : ℕ) (x : Expected) (next : TypeExpr → Reader) (t : Lexeme) → l ≤ B → Okay ed B (type l x next) → Good ed B (behind_name next t)
   behind_name_good l x next t le ok = (
     inl (omega arith),
     (
@@ -219,7 +219,7 @@ module _ (ed : Edition) (B : ℕ) where
     ),
   )
 
-  pub behind_bracket_good : (l : ℕ) (x : Expected) (next : TypeExpr → State) (t : Lexeme) → l + 1 ≤ B → Okay ed B (type l x next) →
+  pub behind_bracket_good : (l : ℕ) (x : Expected) (next : TypeExpr → Reader) (t : Lexeme) → l + 1 ≤ B → Okay ed B (type l x next) →
       Good ed B (behind_bracket l next t)
   behind_bracket_good l x next t le ok = (
     le,
@@ -234,34 +234,34 @@ module _ (ed : Edition) (B : ℕ) where
     ),
   )
 
-  pub behind_struct_good : (l : ℕ) (x : Expected) (next : TypeExpr → State) (t : Lexeme) → l ≤ B → Okay ed B (type l x next) → Good ed B (behind_struct l next t)
+  pub behind_struct_good : (l : ℕ) (x : Expected) (next : TypeExpr → Reader) (t : Lexeme) → l ≤ B → Okay ed B (type l x next) → Good ed B (behind_struct l next t)
   behind_struct_good l x next t le ok = (
     omega arith,
     λ o k z. (tt, (omega arith, tt, λ is c fits. ok.0 (struct t.place (pack_fields is)) (omega (arith, fields_fit ed B (l + 1) is (omega arith) fits)))),
   )
 
-  pub on_type_kept : (l : ℕ) (x : Expected) (next : TypeExpr → State) (t : Lexeme) → Okay ed B (type l x next) → Kept ed B (on_type l x next t)
+  pub on_type_kept : (l : ℕ) (x : Expected) (next : TypeExpr → Reader) (t : Lexeme) → Okay ed B (type l x next) → Kept ed B (on_type l x next t)
   on_type_kept l x next t ok =
       kept_cond ed B (same kinds.Name t.kind) _ _ (λ e le. behind_name_good l x next t le ok) (λ e.
       kept_cond ed B (same opening_bracket t.kind) _ _ (λ e le. behind_bracket_good l x next t le ok) (λ e.
       kept_cond ed B (same (keyword keywords.Struct) t.kind) _ _ (λ e le. behind_struct_good l x next t le ok) (λ e. tt)))
 
-  pub type_back : (l : ℕ) (x : Expected) (next : TypeExpr → State) (t : Lexeme) (us : List Lexeme) (f : File) →
-      After ed B (step ed (type l x next) t) us f → Means ed B (type l x next) (t ∷ us) f
+  pub type_back : (l : ℕ) (x : Expected) (next : TypeExpr → Reader) (t : Lexeme) (us : List Lexeme) (f : File) →
+      After ed B (parser_step ed (type l x next) t) us f → Means ed B (type l x next) (t ∷ us) f
   type_back = on_type_back
 
-  pub type_forth : (l : ℕ) (x : Expected) (next : TypeExpr → State) (t : Lexeme) (us : List Lexeme) (f : File) →
-      Means ed B (type l x next) (t ∷ us) f → After ed B (step ed (type l x next) t) us f
+  pub type_forth : (l : ℕ) (x : Expected) (next : TypeExpr → Reader) (t : Lexeme) (us : List Lexeme) (f : File) →
+      Means ed B (type l x next) (t ∷ us) f → After ed B (parser_step ed (type l x next) t) us f
   type_forth = on_type_forth
 
-  pub type_kept : (l : ℕ) (x : Expected) (next : TypeExpr → State) (t : Lexeme) → Okay ed B (type l x next) → Kept ed B (step ed (type l x next) t)
+  pub type_kept : (l : ℕ) (x : Expected) (next : TypeExpr → Reader) (t : Lexeme) → Okay ed B (type l x next) → Kept ed B (parser_step ed (type l x next) t)
   type_kept = on_type_kept
 
-  pub type_begins : (l : ℕ) (x : Expected) (next : TypeExpr → State) (t : Lexeme) (us : List Lexeme) (f : File) →
+  pub type_begins : (l : ℕ) (x : Expected) (next : TypeExpr → Reader) (t : Lexeme) (us : List Lexeme) (f : File) →
       Means ed B (type l x next) (t ∷ us) f → begins (type l x next) t.kind ≡ true
   type_begins l x next t us f m = type_first ed m.0 t us m.1 m.2
 
-  pub type_comes : (l : ℕ) (x : Expected) (next : TypeExpr → State) → l ≤ B → ((a : TypeExpr) → l + type_height a ≤ B + 1 → Comes ed B (next a)) →
+  pub type_comes : (l : ℕ) (x : Expected) (next : TypeExpr → Reader) → l ≤ B → ((a : TypeExpr) → l + type_height a ≤ B + 1 → Comes ed B (next a)) →
       Comes ed B (type l x next)
   type_comes l x next le on =
       let t = a_token kinds.Name in
@@ -269,5 +269,5 @@ module _ (ed : Edition) (B : ℕ) where
       let c = on a (omega arith) in
       (t ∷ c.0, c.1, (a, c.0, (t, token_first kinds.Name c.0, refl, refl), omega arith, c.2))
 
-  pub type_over : (l : ℕ) (x : Expected) (next : TypeExpr → State) (f : File) → Means ed B (type l x next) [] f → ⊥
+  pub type_over : (l : ℕ) (x : Expected) (next : TypeExpr → Reader) (f : File) → Means ed B (type l x next) [] f → ⊥
   type_over l x next f m = type_never ed m.0 m.1 m.2

@@ -10,7 +10,7 @@ use Rattle.go_scan.specs.declared.keyword.Keyword.TheVariants as keywords
 use Rattle.go_scan.specs.declared.punctuation.Punctuation.TheVariants as marks
 use Rattle.go_scan.specs.Runes.{RuneValue}
 use Rattle.go_scan.specs.Strings.{StringValue}
-use Rattle.go_ast.specs.Trees.{Name, TypeExpr, named, qualified, array, slice, struct, Fields, no_fields, field, Expr, name, integer, rune, string, parenthesized, composite_lit, conversion, selector, index, cut, Bound, no_bound, bound, call, type_operand, unary, binary, Exprs, no_exprs, some_exprs, Elements, no_elements, element, Element, expression_element, value_element, Simple, call_statement, increment, decrement, assignment, operator_assignment, short_var_decl, ConstSpec, VarSpec, TypeSpec, Decl, constants, variables, types, Stmt, empty, declaration, simple, return, break, continue, fallthrough, block_statement, if_statement, for_statement, range_statement, switch_statement, Block, block, If, conditional, Else, no_else, else_block, else_if, Stmts, no_stmts, some_stmts, Clauses, no_clauses, clause, Parameter, Function, TopLevel, declared, function, ImportSpec, File, place_of}
+use Rattle.go_ast.specs.Trees.{Name, TypeExpr, named, qualified, array, slice, struct, FieldDecls, no_fields, field, Expression, name, integer, rune, string, parenthesized, composite_lit, conversion, selector, index, cut, Bound, no_bound, bound, call, type_operand, unary, binary, ExpressionList, no_exprs, some_exprs, Elements, no_elements, element, Element, expression_element, value_element, Simple, call_statement, increment, decrement, assignment, operator_assignment, short_var_decl, ConstSpec, VarSpec, TypeSpec, Decl, constants, variables, types, Statement, empty, declaration, simple, return, break, continue, fallthrough, block_statement, if_statement, for_statement, range_statement, switch_statement, Block, block, If, conditional, Else, no_else, else_block, else_if, StatementList, no_stmts, some_stmts, Cases, no_clauses, clause, Parameter, FunctionDecl, TopLevel, declared, function, ImportSpec, File, place_of}
 use Rattle.go_ast.specs.Heights.{file_height}
 use Rattle.go_ast.specs.Operators.{unary_of, binary_of, assignment_of, tighter}
 
@@ -113,7 +113,7 @@ converts (slice p a) = false
 converts (struct p fs) = true
 
 -- what a suffix may stand behind: no operator's expression
-abbrev pub IsPrimary : Expr → Type 0
+abbrev pub IsPrimary : Expression → Type 0
 IsPrimary (unary p op e) = ⊥
 IsPrimary (binary p op a b) = ⊥
 IsPrimary _ = Unit {0}
@@ -132,7 +132,7 @@ concat [] = []
 concat (xs ∷ xss) = xs ++ concat xss
 
 -- a call, parentheses dropped
-abbrev pub is_call : Expr → Bool
+abbrev pub is_call : Expression → Bool
 is_call (parenthesized p e) = is_call e
 is_call (call p f es) = true
 is_call _ = false
@@ -175,7 +175,7 @@ abbrev pub IsRangeName : Option Name → List Lexeme → List Lexeme → Type 0
 IsRangeName None us ws = us ≡ ws
 IsRangeName (Some n) us ws = (t d : Lexeme) × (vs : List Lexeme) × Token kinds.Name t us vs × (n ≡ name_of t) × Token define d vs ws
 
-abbrev pub is_last : Clauses → Bool
+abbrev pub is_last : Cases → Bool
 is_last no_clauses = true
 is_last (clause p es ss cs) = false
 
@@ -214,7 +214,7 @@ module _ (ed : Edition) where
         (k o c : Lexeme) × (vs xs ys : List Lexeme) × Token (kinds.Keyword keywords.Struct) k us vs × (p ≡ k.place)
         × Token opening_brace o vs xs × AreFields fs xs ys × Token closing_brace c ys ws
 
-    pub AreFields : Fields → List Lexeme → List Lexeme → Type 0
+    pub AreFields : FieldDecls → List Lexeme → List Lexeme → Type 0
     AreFields no_fields us ws = us ≡ ws
     AreFields (field ns a fs) us ws =
         (vs xs : List Lexeme) × AreNames ns us vs × IsType a vs xs × Behind semicolon (AreFields fs) (fs ≡ no_fields) xs ws
@@ -224,7 +224,7 @@ module _ (ed : Edition) where
     --             Primary "[" [ Expr ] ":" [ Expr ] "]" too, and the first Expr of a call may be a Type that isn't a name
     --   Unary   = Primary | ( "+" | "-" | "!" | "^" ) Unary
     --   Expr    = Unary | Expr operator Expr, of five levels, left to right
-    pub IsExpr : ℕ → Bool → Expr → List Lexeme → List Lexeme → Type 0
+    pub IsExpr : ℕ → Bool → Expression → List Lexeme → List Lexeme → Type 0
     IsExpr n h (name p text) us ws = (t : Lexeme) × Token kinds.Name t us ws × (p ≡ t.place) × (text ≡ t.text)
     IsExpr n h (integer p text) us ws = (t : Lexeme) × Token kinds.Integer t us ws × (p ≡ t.place) × (text ≡ t.text)
     IsExpr n h (rune p value) us ws = (t : Lexeme) × Token kinds.Rune t us ws × (p ≡ t.place) × RuneValue t.text value
@@ -261,18 +261,18 @@ module _ (ed : Edition) where
     IsBound (bound e) us ws = IsExpr 5 false e us ws
 
     -- a type that isn't a name, with slices
-    pub IsTypeOperand : Expr → List Lexeme → List Lexeme → Type 0
+    pub IsTypeOperand : Expression → List Lexeme → List Lexeme → Type 0
     IsTypeOperand (type_operand p a) us ws = (has_slices ed ≡ true) × (is_named a ≡ false) × IsType a us ws × (p ≡ type_place a)
     IsTypeOperand e us ws = ⊥
 
     -- [ ( Expr | Type ) { "," Expr } [ "," ] ]
-    pub AreOperands : Exprs → List Lexeme → List Lexeme → Type 0
+    pub AreOperands : ExpressionList → List Lexeme → List Lexeme → Type 0
     AreOperands no_exprs us ws = us ≡ ws
     AreOperands (some_exprs e es) us ws =
         (vs : List Lexeme) × (IsExpr 5 false e us vs ⊎ IsTypeOperand e us vs) × Behind comma (AreArguments es) (es ≡ no_exprs) vs ws
 
     -- { Expr "," }, where the last comma may be missing
-    pub AreArguments : Exprs → List Lexeme → List Lexeme → Type 0
+    pub AreArguments : ExpressionList → List Lexeme → List Lexeme → Type 0
     AreArguments no_exprs us ws = us ≡ ws
     AreArguments (some_exprs e es) us ws = (vs : List Lexeme) × IsExpr 5 false e us vs × Behind comma (AreArguments es) (es ≡ no_exprs) vs ws
 
@@ -288,11 +288,11 @@ module _ (ed : Edition) where
         (o c : Lexeme) × (vs xs : List Lexeme) × Token opening_brace o us vs × (p ≡ o.place) × AreElements es vs xs × Token closing_brace c xs ws
 
   --   Exprs = Expr { "," Expr }
-  abbrev pub AreMoreExprs : Bool → Exprs → List Lexeme → List Lexeme → Type 0
+  abbrev pub AreMoreExprs : Bool → ExpressionList → List Lexeme → List Lexeme → Type 0
   AreMoreExprs h no_exprs us ws = us ≡ ws
   AreMoreExprs h (some_exprs e es) us ws = (c : Lexeme) × (vs xs : List Lexeme) × Token comma c us vs × IsExpr 5 h e vs xs × AreMoreExprs h es xs ws
 
-  abbrev pub AreExprs : Bool → Exprs → List Lexeme → List Lexeme → Type 0
+  abbrev pub AreExprs : Bool → ExpressionList → List Lexeme → List Lexeme → Type 0
   AreExprs h no_exprs us ws = ⊥
   AreExprs h (some_exprs e es) us ws = (vs : List Lexeme) × IsExpr 5 h e us vs × AreMoreExprs h es vs ws
 
@@ -311,7 +311,7 @@ module _ (ed : Edition) where
   IsType? None us ws = us ≡ ws
   IsType? (Some a) us ws = IsType a us ws
 
-  abbrev pub IsExpr? : Option Expr → List Lexeme → List Lexeme → Type 0
+  abbrev pub IsExpr? : Option Expression → List Lexeme → List Lexeme → Type 0
   IsExpr? None us ws = us ≡ ws
   IsExpr? (Some e) us ws = IsExpr 5 true e us ws
 
@@ -320,7 +320,7 @@ module _ (ed : Edition) where
   IsSimple? (Some s) us ws = IsSimple true s us ws
 
   -- "=" Exprs
-  abbrev pub AreValues : Exprs → List Lexeme → List Lexeme → Type 0
+  abbrev pub AreValues : ExpressionList → List Lexeme → List Lexeme → Type 0
   AreValues es us ws = (t : Lexeme) × (vs : List Lexeme) × Token assign t us vs × AreExprs false es vs ws
 
   --   ConstSpec = Names [ [ Type ] "=" Exprs ]
@@ -351,20 +351,20 @@ module _ (ed : Edition) where
   IsStart (Some s) us ws = (t : Lexeme) × (vs : List Lexeme) × IsSimple true s us vs × Token semicolon t vs ws
 
   --   [ Expr ] | [ Simple ] ";" [ Expr ] ";" [ Simple ]
-  abbrev pub IsForHead : Option Simple → Option Expr → Option Simple → List Lexeme → List Lexeme → Type 0
+  abbrev pub IsForHead : Option Simple → Option Expression → Option Simple → List Lexeme → List Lexeme → Type 0
   IsForHead i c n us ws =
       ((i ≡ None) × (n ≡ None) × IsExpr? c us ws)
       ⊎ ((t r : Lexeme) × (vs xs ys zs : List Lexeme) × IsSimple? i us vs × Token semicolon t vs xs × IsExpr? c xs ys × Token semicolon r ys zs
       × IsSimple? n zs ws × ((s : Simple) → n ≡ Some s → is_short_var_decl s ≡ false))
 
   --   "case" Exprs | "default"
-  abbrev pub IsCase : Place → Option Exprs → List Lexeme → List Lexeme → Type 0
+  abbrev pub IsCase : Place → Option ExpressionList → List Lexeme → List Lexeme → Type 0
   IsCase p None us ws = (t : Lexeme) × Token (kinds.Keyword keywords.Default) t us ws × (p ≡ t.place)
   IsCase p (Some es) us ws = (t : Lexeme) × (vs : List Lexeme) × Token (kinds.Keyword keywords.Case) t us vs × (p ≡ t.place) × AreExprs false es vs ws
 
   abbrev mutual
     --   Stmt = nothing | Decl | Simple | "return" [ Exprs ] | "break" | "continue" | "fallthrough" | Block | If | For | Switch
-    pub IsStmt : Stmt → List Lexeme → List Lexeme → Type 0
+    pub IsStmt : Statement → List Lexeme → List Lexeme → Type 0
     IsStmt (empty p) us ws = (t : Lexeme) × (vs : List Lexeme) × Token semicolon t us vs × (p ≡ t.place) × (us ≡ ws)
     IsStmt (declaration p d) us ws = IsDecl d us ws × (p ≡ decl_place d) × (declares_types d ≡ false)
     IsStmt (simple p s) us ws = IsSimple false s us ws × (p ≡ simple_place s)
@@ -405,13 +405,13 @@ module _ (ed : Edition) where
     IsElse (else_if i) us ws = (t : Lexeme) × (vs : List Lexeme) × Token (kinds.Keyword keywords.Else) t us vs × IsIf i vs ws
 
     -- { Stmt ";" }, where the last semicolon may be missing if `closed`, in front of a closing brace
-    pub AreStmts : Bool → Stmts → List Lexeme → List Lexeme → Type 0
+    pub AreStmts : Bool → StatementList → List Lexeme → List Lexeme → Type 0
     AreStmts closed no_stmts us ws = us ≡ ws
     AreStmts closed (some_stmts s ss) us ws =
         (vs : List Lexeme) × IsStmt s us vs × Behind semicolon (AreStmts closed ss) ((ss ≡ no_stmts) × (closed ≡ true)) vs ws
 
     --   Clause = ( "case" Exprs | "default" ) ":" { Stmt ";" }
-    pub AreClauses : Clauses → List Lexeme → List Lexeme → Type 0
+    pub AreClauses : Cases → List Lexeme → List Lexeme → Type 0
     AreClauses no_clauses us ws = us ≡ ws
     AreClauses (clause p es ss cs) us ws =
         (t : Lexeme) × (vs xs ys : List Lexeme) × IsCase p es us vs × Token colon t vs xs × AreStmts (is_last cs) ss xs ys × AreClauses cs ys ws
@@ -427,7 +427,7 @@ module _ (ed : Edition) where
       ⊎ ((o c : Lexeme) × (vs xs : List Lexeme) × Token opening o us vs × AreItems IsType comma rs vs xs × Token closing c xs ws)
 
   --   Func = "func" Name "(" [ Param { "," Param } [ "," ] ] ")" Result Block
-  abbrev pub IsFunction : Function → List Lexeme → List Lexeme → Type 0
+  abbrev pub IsFunction : FunctionDecl → List Lexeme → List Lexeme → Type 0
   IsFunction f us ws =
       (k t o c : Lexeme) × (vs xs ys zs zs' zs'' : List Lexeme) × Token (kinds.Keyword keywords.Func) k us vs × (f.place ≡ k.place)
       × Token kinds.Name t vs xs × (f.name ≡ name_of t) × Token opening o xs ys × AreItems IsParameter comma f.parameters ys zs

@@ -1,6 +1,6 @@
 -- How many levels of nodes a tree has: statements, blocks, expressions, types and the braces of a literal.
 use Rattle.std.specs.Prelude.{ℕ, ◌+◌, max, List, [], ◌∷◌, Option, Some, None}
-use Rattle.go_ast.specs.Trees.{TypeExpr, array, slice, struct, Fields, no_fields, field, Expr, parenthesized, composite_lit, conversion, selector, index, cut, Bound, no_bound, bound, call, type_operand, unary, binary, Exprs, no_exprs, some_exprs, Elements, no_elements, element, Element, expression_element, value_element, Simple, call_statement, increment, decrement, assignment, operator_assignment, short_var_decl, ConstSpec, VarSpec, TypeSpec, Decl, constants, variables, types, Stmt, declaration, simple, return, block_statement, if_statement, for_statement, range_statement, switch_statement, Block, block, If, conditional, Else, no_else, else_block, else_if, Stmts, no_stmts, some_stmts, Clauses, no_clauses, clause, Parameter, Function, TopLevel, declared, function, File}
+use Rattle.go_ast.specs.Trees.{TypeExpr, array, slice, struct, FieldDecls, no_fields, field, Expression, parenthesized, composite_lit, conversion, selector, index, cut, Bound, no_bound, bound, call, type_operand, unary, binary, ExpressionList, no_exprs, some_exprs, Elements, no_elements, element, Element, expression_element, value_element, Simple, call_statement, increment, decrement, assignment, operator_assignment, short_var_decl, ConstSpec, VarSpec, TypeSpec, Decl, constants, variables, types, Statement, declaration, simple, return, block_statement, if_statement, for_statement, range_statement, switch_statement, Block, block, If, conditional, Else, no_else, else_block, else_if, StatementList, no_stmts, some_stmts, Cases, no_clauses, clause, Parameter, FunctionDecl, TopLevel, declared, function, File}
 
 abbrev mutual
   pub type_height : TypeExpr → ℕ
@@ -9,11 +9,11 @@ abbrev mutual
   type_height (struct p fs) = fields_height fs + 1
   type_height _ = 1
 
-  pub fields_height : Fields → ℕ
+  pub fields_height : FieldDecls → ℕ
   fields_height no_fields = 0
   fields_height (field ns a fs) = max (type_height a) (fields_height fs)
 
-  pub height : Expr → ℕ
+  pub height : Expression → ℕ
   height (parenthesized p e) = height e + 1
   height (composite_lit p a q es) = max (type_height a) (elements_height es + 1) + 1
   height (conversion p a e) = max (type_height a) (height e) + 1
@@ -30,7 +30,7 @@ abbrev mutual
   bound_height no_bound = 0
   bound_height (bound e) = height e
 
-  pub exprs_height : Exprs → ℕ
+  pub exprs_height : ExpressionList → ℕ
   exprs_height no_exprs = 0
   exprs_height (some_exprs e es) = max (height e) (exprs_height es)
 
@@ -76,7 +76,7 @@ decl_height (variables p ss) = greatest var_height ss
 decl_height (types p ss) = greatest type_spec_height ss
 
 abbrev mutual
-  pub stmt_height : Stmt → ℕ
+  pub stmt_height : Statement → ℕ
   stmt_height (declaration p d) = decl_height d + 1
   stmt_height (simple p s) = simple_height s + 1
   stmt_height (return p es) = exprs_height es + 1
@@ -98,18 +98,18 @@ abbrev mutual
   else_height (else_block b) = block_height b
   else_height (else_if i) = if_height i
 
-  pub stmts_height : Stmts → ℕ
+  pub stmts_height : StatementList → ℕ
   stmts_height no_stmts = 0
   stmts_height (some_stmts s ss) = max (stmt_height s) (stmts_height ss)
 
-  pub clauses_height : Clauses → ℕ
+  pub clauses_height : Cases → ℕ
   clauses_height no_clauses = 0
   clauses_height (clause p es ss cs) = max (max (lifted exprs_height es) (stmts_height ss)) (clauses_height cs)
 
 abbrev pub parameter_height : Parameter → ℕ
 parameter_height p = type_height p.type
 
-abbrev pub function_height : Function → ℕ
+abbrev pub function_height : FunctionDecl → ℕ
 function_height f = max (max (greatest parameter_height f.parameters) (greatest type_height f.results)) (block_height f.body)
 
 abbrev pub top_height : TopLevel → ℕ

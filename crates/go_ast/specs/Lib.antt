@@ -8,6 +8,7 @@ pub mod Literals
 pub mod Machine
 pub mod Operators
 pub mod Parse
+pub mod ReadTrees
 pub mod Spellings
 pub mod Stops
 pub mod Tokens

@@ -17,42 +17,42 @@ mutual
     -- a name, and a name of a package's
     named : Place → Name → TypeExpr
     qualified : Place → Name → Name → TypeExpr
-    array : Place → Expr → TypeExpr → TypeExpr
+    array : Place → Expression → TypeExpr → TypeExpr
     slice : Place → TypeExpr → TypeExpr
-    struct : Place → Fields → TypeExpr
+    struct : Place → FieldDecls → TypeExpr
 
   -- names of one type, and others behind them
-  pub data Fields : Type 0 where
-    no_fields : Fields
-    field : List Name → TypeExpr → Fields → Fields
+  pub data FieldDecls : Type 0 where
+    no_fields : FieldDecls
+    field : List Name → TypeExpr → FieldDecls → FieldDecls
 
-  pub data Expr : Type 0 where
+  pub data Expression : Type 0 where
     -- a name and an integer literal have their text, a rune and a string literal what they mean
-    name : Place → List ℕ → Expr
-    integer : Place → List ℕ → Expr
-    rune : Place → ℕ → Expr
-    string : Place → List ℕ → Expr
-    parenthesized : Place → Expr → Expr
+    name : Place → List ℕ → Expression
+    integer : Place → List ℕ → Expression
+    rune : Place → ℕ → Expression
+    string : Place → List ℕ → Expression
+    parenthesized : Place → Expression → Expression
     -- an array or a struct of a type: the type, the place of the opening brace, and the elements
-    composite_lit : Place → TypeExpr → Place → Elements → Expr
-    conversion : Place → TypeExpr → Expr → Expr
-    selector : Place → Expr → Name → Expr
-    index : Place → Expr → Expr → Expr
+    composite_lit : Place → TypeExpr → Place → Elements → Expression
+    conversion : Place → TypeExpr → Expression → Expression
+    selector : Place → Expression → Name → Expression
+    index : Place → Expression → Expression → Expression
     -- a part of an operand, between two bounds
-    cut : Place → Expr → Bound → Bound → Expr
-    call : Place → Expr → Exprs → Expr
+    cut : Place → Expression → Bound → Bound → Expression
+    call : Place → Expression → ExpressionList → Expression
     -- a type as a call's first operand
-    type_operand : Place → TypeExpr → Expr
-    unary : Place → UnaryOperator → Expr → Expr
-    binary : Place → BinaryOperator → Expr → Expr → Expr
+    type_operand : Place → TypeExpr → Expression
+    unary : Place → UnaryOperator → Expression → Expression
+    binary : Place → BinaryOperator → Expression → Expression → Expression
 
   pub data Bound : Type 0 where
     no_bound : Bound
-    bound : Expr → Bound
+    bound : Expression → Bound
 
-  pub data Exprs : Type 0 where
-    no_exprs : Exprs
-    some_exprs : Expr → Exprs → Exprs
+  pub data ExpressionList : Type 0 where
+    no_exprs : ExpressionList
+    some_exprs : Expression → ExpressionList → ExpressionList
 
   -- elements of a literal, each with a key or none
   pub data Elements : Type 0 where
@@ -61,27 +61,27 @@ mutual
 
   -- an expression, or the elements of a literal that leaves out its type
   pub data Element : Type 0 where
-    expression_element : Expr → Element
+    expression_element : Expression → Element
     value_element : Place → Elements → Element
 
 -- Exprs "=" Exprs and the like; `call_statement` is a call that stands as a statement
 pub data Simple : Type 0 where
-  call_statement : Expr → Simple
-  increment : Expr → Simple
-  decrement : Expr → Simple
-  assignment : Exprs → Exprs → Simple
-  operator_assignment : BinaryOperator → Expr → Expr → Simple
-  short_var_decl : List Name → Exprs → Simple
+  call_statement : Expression → Simple
+  increment : Expression → Simple
+  decrement : Expression → Simple
+  assignment : ExpressionList → ExpressionList → Simple
+  operator_assignment : BinaryOperator → Expression → Expression → Simple
+  short_var_decl : List Name → ExpressionList → Simple
 
 pub record ConstSpec : Type 0 where
   pub names : List Name
   pub type : Option TypeExpr
-  pub values : Exprs
+  pub values : ExpressionList
 
 pub record VarSpec : Type 0 where
   pub names : List Name
   pub type : Option TypeExpr
-  pub values : Exprs
+  pub values : ExpressionList
 
 pub record TypeSpec : Type 0 where
   pub name : Name
@@ -94,47 +94,47 @@ pub data Decl : Type 0 where
   types : Place → List TypeSpec → Decl
 
 mutual
-  pub data Stmt : Type 0 where
-    empty : Place → Stmt
-    declaration : Place → Decl → Stmt
-    simple : Place → Simple → Stmt
-    return : Place → Exprs → Stmt
-    break : Place → Stmt
-    continue : Place → Stmt
-    fallthrough : Place → Stmt
-    block_statement : Block → Stmt
-    if_statement : If → Stmt
+  pub data Statement : Type 0 where
+    empty : Place → Statement
+    declaration : Place → Decl → Statement
+    simple : Place → Simple → Statement
+    return : Place → ExpressionList → Statement
+    break : Place → Statement
+    continue : Place → Statement
+    fallthrough : Place → Statement
+    block_statement : Block → Statement
+    if_statement : If → Statement
     -- a statement before, a condition and a statement behind each turn, where there are such
-    for_statement : Place → Option Simple → Option Expr → Option Simple → Block → Stmt
-    range_statement : Place → Option Name → Expr → Block → Stmt
-    switch_statement : Place → Option Simple → Option Expr → Clauses → Stmt
+    for_statement : Place → Option Simple → Option Expression → Option Simple → Block → Statement
+    range_statement : Place → Option Name → Expression → Block → Statement
+    switch_statement : Place → Option Simple → Option Expression → Cases → Statement
 
   -- the places of both braces, and the statements between them
   pub data Block : Type 0 where
-    block : Place → Stmts → Place → Block
+    block : Place → StatementList → Place → Block
 
   pub data If : Type 0 where
-    conditional : Place → Option Simple → Expr → Block → Else → If
+    conditional : Place → Option Simple → Expression → Block → Else → If
 
   pub data Else : Type 0 where
     no_else : Else
     else_block : Block → Else
     else_if : If → Else
 
-  pub data Stmts : Type 0 where
-    no_stmts : Stmts
-    some_stmts : Stmt → Stmts → Stmts
+  pub data StatementList : Type 0 where
+    no_stmts : StatementList
+    some_stmts : Statement → StatementList → StatementList
 
   -- a case's values, or none for the default, and its statements
-  pub data Clauses : Type 0 where
-    no_clauses : Clauses
-    clause : Place → Option Exprs → Stmts → Clauses → Clauses
+  pub data Cases : Type 0 where
+    no_clauses : Cases
+    clause : Place → Option ExpressionList → StatementList → Cases → Cases
 
 pub record Parameter : Type 0 where
   pub names : List Name
   pub type : TypeExpr
 
-pub record Function : Type 0 where
+pub record FunctionDecl : Type 0 where
   pub place : Place
   pub name : Name
   pub parameters : List Parameter
@@ -144,7 +144,7 @@ pub record Function : Type 0 where
 -- what a file declares
 pub data TopLevel : Type 0 where
   declared : Decl → TopLevel
-  function : Function → TopLevel
+  function : FunctionDecl → TopLevel
 
 -- an import: the place of its first token, the name that it gives, the path, and the place of the path's literal
 pub record ImportSpec : Type 0 where
@@ -160,7 +160,7 @@ pub record File : Type 0 where
   pub declarations : List TopLevel
 
 -- the place of an expression's first token
-abbrev pub place_of : Expr → Place
+abbrev pub place_of : Expression → Place
 place_of (name p text) = p
 place_of (integer p text) = p
 place_of (rune p value) = p
@@ -177,12 +177,12 @@ place_of (unary p op e) = p
 place_of (binary p op a b) = p
 
 -- the place of some expressions' first token, and the place of their own where there are none
-abbrev pub first_place : Place → Exprs → Place
+abbrev pub first_place : Place → ExpressionList → Place
 first_place p no_exprs = p
 first_place p (some_exprs e es) = place_of e
 
 -- lists as trees of their own
-abbrev pub pack : List Expr → Exprs
+abbrev pub pack : List Expression → ExpressionList
 pack [] = no_exprs
 pack (e ∷ es) = some_exprs e (pack es)
 
@@ -190,10 +190,10 @@ abbrev pub pack_elements : List (Option Name × Element) → Elements
 pack_elements [] = no_elements
 pack_elements (e ∷ es) = element e.0 e.1 (pack_elements es)
 
-abbrev pub pack_fields : List (List Name × TypeExpr) → Fields
+abbrev pub pack_fields : List (List Name × TypeExpr) → FieldDecls
 pack_fields [] = no_fields
 pack_fields (f ∷ fs) = field f.0 f.1 (pack_fields fs)
 
-abbrev pub pack_stmts : List Stmt → Stmts
-pack_stmts [] = no_stmts
-pack_stmts (s ∷ ss) = some_stmts s (pack_stmts ss)
+abbrev pub pack_statements : List Statement → StatementList
+pack_statements [] = no_stmts
+pack_statements (s ∷ ss) = some_stmts s (pack_statements ss)

@@ -39,13 +39,13 @@ abbrev mutual
   type_at (Qualified m n) p = trees.qualified p m n
   type_at (Array' x q e y r a) p = trees.array p (expr_at e q) (type_at a r)
   type_at (Slice' x q a) p = trees.slice p (type_at a q)
-  type_at (Struct' n row) p = trees.struct p (fields_of row)
+  type_at (Struct' n row) p = trees.struct p (field_list_tree row)
 
-  pub fields_of : {m : _} → Row_of-Field m → trees.Fields
-  fields_of end_of-Field = trees.no_fields
-  fields_of (more_of-Field names q a row) = trees.field names.items (type_at a q) (fields_of row)
+  pub field_list_tree : {m : _} → Row_of-Field m → trees.FieldDecls
+  field_list_tree end_of-Field = trees.no_fields
+  field_list_tree (more_of-Field names q a row) = trees.field names.items (type_at a q) (field_list_tree row)
 
-  pub expr_at : ExprKind → Place → trees.Expr
+  pub expr_at : ExprKind → Place → trees.Expression
   expr_at (Name text) p = trees.name p text
   expr_at (Integer text) p = trees.integer p text
   expr_at (Rune value) p = trees.rune p value
@@ -65,7 +65,7 @@ abbrev mutual
   bound_of Open = trees.no_bound
   bound_of (At' x q e) = trees.bound (expr_at e q)
 
-  pub exprs_of : {m : _} → Row_of-Expr m → trees.Exprs
+  pub exprs_of : {m : _} → Row_of-Expr m → trees.ExpressionList
   exprs_of end_of-Expr = trees.no_exprs
   exprs_of (more_of-Expr q e row) = trees.some_exprs (expr_at e q) (exprs_of row)
 
@@ -81,7 +81,7 @@ abbrev mutual
 unfoldable pub type_of : TypeExpr → trees.TypeExpr
 type_of a = type_at a.kind a.place
 
-unfoldable pub expr_of : Expr → trees.Expr
+unfoldable pub expr_of : Expr → trees.Expression
 expr_of e = expr_at e.kind e.place
 
 unfoldable pub value_of : ElementValue → trees.Element
@@ -103,7 +103,7 @@ abbrev pub if_boxed : {A B : Type 0} → (A → B) → Option (Box A Global) →
 if_boxed f None = None
 if_boxed f (Some a) = Some (f a.value)
 
-abbrev pub exprs_in : List Expr → trees.Exprs
+abbrev pub exprs_in : List Expr → trees.ExpressionList
 exprs_in es = trees.pack (map expr_of es)
 
 -- declarations
@@ -133,7 +133,7 @@ simple_of (simples.OperatorAssignment op l r) = trees.operator_assignment op (ex
 simple_of (simples.ShortVarDecl ns rs) = trees.short_var_decl ns.items (exprs_in rs.items)
 
 abbrev mutual
-  pub stmt_at : Stmt → trees.Stmt
+  pub stmt_at : Stmt → trees.Statement
   stmt_at (stmts.Empty p) = trees.empty p
   stmt_at (stmts.Declaration p d) = trees.declaration p (decl_of d)
   stmt_at (stmts.Simple p s) = trees.simple p (simple_of s)
@@ -143,38 +143,38 @@ abbrev mutual
   stmt_at (stmts.Fallthrough p) = trees.fallthrough p
   stmt_at (stmts.Block' p n row q) = trees.block_statement (trees.block p (stmts_of row) q)
   stmt_at (stmts.If' p s c bp n row bq e) =
-      trees.if_statement (trees.conditional p (if_boxed simple_of s) (expr_of c.value) (trees.block bp (stmts_of row) bq) (else_at e))
+      trees.if_statement (trees.conditional p (if_boxed simple_of s) (expr_of c.value) (trees.block bp (stmts_of row) bq) (else_tree e))
   stmt_at (stmts.For' p s c r bp n row bq) =
       trees.for_statement p (if_boxed simple_of s) (if_boxed expr_of c) (if_boxed simple_of r) (trees.block bp (stmts_of row) bq)
   stmt_at (stmts.Range' p name e bp n row bq) = trees.range_statement p name (expr_of e.value) (trees.block bp (stmts_of row) bq)
   stmt_at (stmts.Switch' p s t n row) = trees.switch_statement p (if_boxed simple_of s) (if_boxed expr_of t) (clauses_of row)
 
-  pub else_at : Else → trees.Else
-  else_at elses.Nothing = trees.no_else
-  else_at (elses.Block' p n row q) = trees.else_block (trees.block p (stmts_of row) q)
-  else_at (elses.If' x p s c bp n row bq e) =
-      trees.else_if (trees.conditional p (if_boxed simple_of s) (expr_of c.value) (trees.block bp (stmts_of row) bq) (else_at e))
+  pub else_tree : Else → trees.Else
+  else_tree elses.Nothing = trees.no_else
+  else_tree (elses.Block' p n row q) = trees.else_block (trees.block p (stmts_of row) q)
+  else_tree (elses.If' x p s c bp n row bq e) =
+      trees.else_if (trees.conditional p (if_boxed simple_of s) (expr_of c.value) (trees.block bp (stmts_of row) bq) (else_tree e))
 
-  pub stmts_of : {m : _} → Row_of-Stmt m → trees.Stmts
+  pub stmts_of : {m : _} → Row_of-Stmt m → trees.StatementList
   stmts_of end_of-Stmt = trees.no_stmts
   stmts_of (more_of-Stmt s row) = trees.some_stmts (stmt_at s) (stmts_of row)
 
-  pub clauses_of : {m : _} → Row_of-Clause m → trees.Clauses
+  pub clauses_of : {m : _} → Row_of-Clause m → trees.Cases
   clauses_of end_of-Clause = trees.no_clauses
   clauses_of (more_of-Clause p es n row rest) = trees.clause p (if_some (λ (v : Vec Expr Global). exprs_in v.items) es) (stmts_of row) (clauses_of rest)
 
-unfoldable pub stmt_of : Stmt → trees.Stmt
+unfoldable pub stmt_of : Stmt → trees.Statement
 stmt_of s = stmt_at s
 
 unfoldable pub else_of : Else → trees.Else
-else_of e = else_at e
+else_of e = else_tree e
 
 -- a clause: its place, its values and its statements
-abbrev pub clause_of : Clause → Place × (Option trees.Exprs × List trees.Stmt)
+abbrev pub clause_of : Clause → Place × (Option trees.ExpressionList × List trees.Statement)
 clause_of c = (c.place, (if_some (λ (es : Vec Expr Global). exprs_in es.items) c.values, map stmt_of c.statements.items))
 
 abbrev pub block_of : Block → trees.Block
-block_of b = trees.block b.place (trees.pack_stmts (map stmt_of b.statements.items)) b.closing
+block_of b = trees.block b.place (trees.pack_statements (map stmt_of b.statements.items)) b.closing
 
 abbrev pub if_of : If → trees.If
 if_of i = trees.conditional i.place (if_boxed simple_of i.init) (expr_of i.condition.value) (block_of i.body) (else_of i.otherwise)
@@ -184,7 +184,7 @@ if_of i = trees.conditional i.place (if_boxed simple_of i.init) (expr_of i.condi
 abbrev pub parameter_of : Parameter → trees.Parameter
 parameter_of p = record { names = p.names.items; type = type_of p.type_expr }
 
-abbrev pub function_of : Function → trees.Function
+abbrev pub function_of : Function → trees.FunctionDecl
 function_of f =
     record { place = f.place; name = f.name; parameters = map parameter_of f.parameters.items; results = map type_of f.results.items; body = block_of f.body }
 

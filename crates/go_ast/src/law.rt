@@ -1,9 +1,11 @@
 //! What holds of the tokens of each source file: go.dev/ref/spec#Source_file_organization.
-ghost use Rattle.std.specs.Prelude.{◌≡◌, ◌⊎◌, ◌≤◌, ◌↔◌, ℕ, List};
+ghost use Rattle.std.specs.Prelude.{◌≡◌, ◌⊎◌, ◌≤◌, ◌↔◌, ℕ, Bool, List};
 ghost use Rattle.go_text.specs.declared.edition.Edition.{Edition};
 ghost use Rattle.go_ast.specs.Grammar.{Lexeme, Derives};
 ghost use Rattle.go_ast.specs.Parse.{Parse, IsParse};
-ghost use Rattle.go_ast.specs.Machine.{start, Done, Refused, run};
+ghost use Rattle.go_ast.specs.Expected.{Expected};
+ghost use Rattle.go_ast.specs.Machine.{start, Done, Refused, run_parser};
+ghost use Rattle.go_ast.specs.ReadTrees.{ReadsExprs, ReadsTypes};
 ghost use Rattle.go_ast.specs.Stops.{StopsAt};
 ghost use Rattle.go_ast.specs.Trees.{File};
 
@@ -37,13 +39,21 @@ pub fn law_numbers()
 
 /// The file that some tokens are is the one that the machine answers.
 pub fn law_file_computed()
-    ensures { (e : Edition) (levels : ℕ) (ts : List Lexeme) (f : File) → 1 ≤ levels → (Derives e levels ts f ↔ (run e levels start ts ≡ Done f)) }
+    ensures { (e : Edition) (levels : ℕ) (ts : List Lexeme) (f : File) → 1 ≤ levels → (Derives e levels ts f ↔ (run_parser e levels start ts ≡ Done f)) }
 {}
 
 /// The machine refuses some tokens where they stop being a file, for that number.
 pub fn law_stop_computed()
     ensures { (e : Edition) (levels : ℕ) (ts : List Lexeme) (number : ℕ) (bad : List Lexeme) → 1 ≤ levels →
-        (StopsAt e levels ts number bad ↔ (run e levels start ts ≡ Refused number bad)) }
+        (StopsAt e levels ts number bad ↔ (run_parser e levels start ts ≡ Refused number bad)) }
+{}
+
+/// What the machine reads as a type or an expression, whatever is due behind it, the grammar derives,
+/// if no token follows with which it would go on: so the trees of `type_from` and `expr_from` are
+/// those of the tokens that they took.
+pub fn law_read_trees_are_derived()
+    ensures types { (e : Edition) (levels l : ℕ) (x : Expected) → l ≤ levels → ReadsTypes e levels l x }
+    ensures expressions { (e : Edition) (levels : ℕ) (header : Bool) (l : ℕ) (x : Expected) → l ≤ levels → ReadsExprs e levels header l x }
 {}
 
 /// A text has at most one parse: one file, or one fault at one place.

@@ -1,2 +1,2 @@
-pub mod Near
-pub mod Wraps
+mod Near
+mod Wraps

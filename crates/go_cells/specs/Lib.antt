@@ -1,3 +1,3 @@
 pub mod Numbers
+pub mod Results
 pub mod Slots
-pub mod Told

@@ -7,8 +7,8 @@ ghost use Rattle.go_code.specs.Operators.{Gives as Given, bounded, byte_of, oper
 ghost use Rattle.go_code.specs.declared.operator.Operator.TheVariants.{Arithmetic, Shift, Negate, Complement, Convert, Not, Compare, Text as On_text, Slice as On_slice};
 ghost use Rattle.go_code.specs.declared.operator.TextOperator.TheVariants.{At, Length, Join, Cut};
 ghost use Rattle.go_code.specs.declared.operator.SliceOperator.TheVariants as slices;
-ghost use Rattle.go_cells.specs.Slots.{number_in, is_slice};
-ghost use Rattle.go_cells.specs.Told.{told};
+ghost use Rattle.go_cells.specs.Slots.{number_in, is_valid_slice};
+ghost use Rattle.go_cells.specs.Results.{operated_of};
 
 use crate::number::{calculate, shift, wrap};
 use crate::slot::{Slice, Slot};
@@ -34,7 +34,7 @@ pub enum Operated {
 /// What an operator gives that gives a number.
 fn number(number: i128) -> Operated
     requires { number_fits number ≡ true }
-    ensures { told result ≡ Given (Cell.Int number) }
+    ensures { operated_of result ≡ Given (Cell.Int number) }
 {
     match Slot::number(number) {
         Some(slot) => Operated::Gives(slot),
@@ -44,7 +44,7 @@ fn number(number: i128) -> Operated
 
 /// An operator between two integers.
 fn calculated(operator: ArithmeticOperator, kind: IntKind, x: &Slot, y: &Slot) -> Operated
-    ensures { told result ≡ operate (Arithmetic operator kind) (x.now ∷ y.now ∷ []) }
+    ensures { operated_of result ≡ operate (Arithmetic operator kind) (x.now ∷ y.now ∷ []) }
 {
     let Some(x) = x.as_number() else {
         return Operated::Senseless;
@@ -60,7 +60,7 @@ fn calculated(operator: ArithmeticOperator, kind: IntKind, x: &Slot, y: &Slot) -
 
 /// A shift of an integer.
 fn shifted(operator: ShiftOperator, kind: IntKind, x: &Slot, count: &Slot) -> Operated
-    ensures { told result ≡ operate (Shift operator kind) (x.now ∷ count.now ∷ []) }
+    ensures { operated_of result ≡ operate (Shift operator kind) (x.now ∷ count.now ∷ []) }
 {
     let Some(x) = x.as_number() else {
         return Operated::Senseless;
@@ -76,7 +76,7 @@ fn shifted(operator: ShiftOperator, kind: IntKind, x: &Slot, count: &Slot) -> Op
 
 /// Minus before an integer.
 fn negated(kind: IntKind, x: &Slot) -> Operated
-    ensures { told result ≡ operate (Negate kind) (x.now ∷ []) }
+    ensures { operated_of result ≡ operate (Negate kind) (x.now ∷ []) }
 {
     match x.as_number() {
         Some(x) => number(wrap(kind, -x)),
@@ -86,7 +86,7 @@ fn negated(kind: IntKind, x: &Slot) -> Operated
 
 /// All bits of an integer flipped.
 fn complemented(kind: IntKind, x: &Slot) -> Operated
-    ensures { told result ≡ operate (Complement kind) (x.now ∷ []) }
+    ensures { operated_of result ≡ operate (Complement kind) (x.now ∷ []) }
 {
     match x.as_number() {
         Some(x) => number(wrap(kind, -1 - x)),
@@ -96,7 +96,7 @@ fn complemented(kind: IntKind, x: &Slot) -> Operated
 
 /// An integer as one of another type.
 fn converted(kind: IntKind, x: &Slot) -> Operated
-    ensures { told result ≡ operate (Convert kind) (x.now ∷ []) }
+    ensures { operated_of result ≡ operate (Convert kind) (x.now ∷ []) }
 {
     match x.as_number() {
         Some(x) => number(wrap(kind, x)),
@@ -106,7 +106,7 @@ fn converted(kind: IntKind, x: &Slot) -> Operated
 
 /// The other truth value.
 fn opposite(x: &Slot) -> Operated
-    ensures { told result ≡ operate Not (x.now ∷ []) }
+    ensures { operated_of result ≡ operate Not (x.now ∷ []) }
 {
     match x.as_truth() {
         Some(truth) => Operated::Gives(Slot::truth(!truth)),
@@ -117,7 +117,7 @@ fn opposite(x: &Slot) -> Operated
 /// A comparison of two texts.
 fn compared_texts(operator: ComparisonOperator, s: &Slot, t: &Slot) -> Operated
     requires { number_in s.now ≡ None }
-    ensures { told result ≡ operate (Compare operator) (s.now ∷ t.now ∷ []) }
+    ensures { operated_of result ≡ operate (Compare operator) (s.now ∷ t.now ∷ []) }
 {
     let Some(s) = s.as_text() else {
         return Operated::Senseless;
@@ -130,7 +130,7 @@ fn compared_texts(operator: ComparisonOperator, s: &Slot, t: &Slot) -> Operated
 
 /// A comparison of two integers or two texts.
 fn compared(operator: ComparisonOperator, x: &Slot, y: &Slot) -> Operated
-    ensures { told result ≡ operate (Compare operator) (x.now ∷ y.now ∷ []) }
+    ensures { operated_of result ≡ operate (Compare operator) (x.now ∷ y.now ∷ []) }
 {
     let Some(first) = x.as_number() else {
         return compared_texts(operator, x, y);
@@ -143,7 +143,7 @@ fn compared(operator: ComparisonOperator, x: &Slot, y: &Slot) -> Operated
 
 /// A byte, if there is one, as what an index gives.
 fn byte(byte: Option<&u8>) -> Operated
-    ensures { told result ≡ byte_of (option_copied byte.entry) }
+    ensures { operated_of result ≡ byte_of (option_copied byte.entry) }
 {
     match byte {
         Some(byte) => number(i128::from(*byte)),
@@ -153,7 +153,7 @@ fn byte(byte: Option<&u8>) -> Operated
 
 /// The byte of a text at an index.
 fn byte_at(text: &Slot, index: &Slot) -> Operated
-    ensures { told result ≡ operate (On_text At) (text.now ∷ index.now ∷ []) }
+    ensures { operated_of result ≡ operate (On_text At) (text.now ∷ index.now ∷ []) }
 {
     let Some(text) = text.as_text() else {
         return Operated::Senseless;
@@ -169,7 +169,7 @@ fn byte_at(text: &Slot, index: &Slot) -> Operated
 
 /// How many bytes a text has.
 fn length(text: &Slot) -> Operated
-    ensures { told result ≡ operate (On_text Length) (text.now ∷ []) }
+    ensures { operated_of result ≡ operate (On_text Length) (text.now ∷ []) }
 {
     match text.as_text() {
         Some(text) => number(text.bytes().len() as i128),
@@ -180,7 +180,7 @@ fn length(text: &Slot) -> Operated
 /// Two texts as one. An `Err` only where memory ran out.
 #[tactic(auto, unfolding(go_code::specs::Operators::most_bytes))]
 fn joined(alloc: Global, s: &Slot, t: &Slot) -> Result<Operated, AllocError>
-    ensures { IfOk result (λ came. told came ≡ operate (On_text Join) (s.now ∷ t.now ∷ [])) }
+    ensures { IfOk result (λ came. operated_of came ≡ operate (On_text Join) (s.now ∷ t.now ∷ [])) }
 {
     let Some(s) = s.as_text() else {
         return Ok(Operated::Senseless);
@@ -200,7 +200,7 @@ fn joined(alloc: Global, s: &Slot, t: &Slot) -> Result<Operated, AllocError>
 
 /// The bytes of a text from one bound to another. An `Err` only where memory ran out.
 fn text_between(alloc: Global, text: &Text, low: i128, high: i128) -> Result<Operated, AllocError>
-    ensures { IfOk result (λ came. told came ≡ bounded (length text.now) low high (λ low high. Cell.Text (take (high - low) (drop low text.now)))) }
+    ensures { IfOk result (λ came. operated_of came ≡ bounded (length text.now) low high (λ low high. Cell.Text (take (high - low) (drop low text.now)))) }
 {
     let bytes = text.bytes();
     let Ok(low) = usize::try_from(low) else {
@@ -217,7 +217,7 @@ fn text_between(alloc: Global, text: &Text, low: i128, high: i128) -> Result<Ope
 
 /// A part of a text, between two bounds. An `Err` only where memory ran out.
 fn cut_text(alloc: Global, text: &Slot, low: &Slot, high: &Slot) -> Result<Operated, AllocError>
-    ensures { IfOk result (λ came. told came ≡ operate (On_text Cut) (text.now ∷ low.now ∷ high.now ∷ [])) }
+    ensures { IfOk result (λ came. operated_of came ≡ operate (On_text Cut) (text.now ∷ low.now ∷ high.now ∷ [])) }
 {
     let Some(text) = text.as_text() else {
         return Ok(Operated::Senseless);
@@ -233,8 +233,8 @@ fn cut_text(alloc: Global, text: &Slot, low: &Slot, high: &Slot) -> Result<Opera
 
 /// The elements of a slice from one bound to another.
 fn slice_between(slice: Slice, low: i128, high: i128) -> Operated
-    requires { is_slice slice ≡ true }
-    ensures { told result ≡ bounded slice.capacity low high (λ low high. Cell.Slice slice.row (slice.start + low) (high - low) (slice.capacity - low)) }
+    requires { is_valid_slice slice ≡ true }
+    ensures { operated_of result ≡ bounded slice.capacity low high (λ low high. Cell.Slice slice.row (slice.start + low) (high - low) (slice.capacity - low)) }
 {
     let Ok(low) = u32::try_from(low) else {
         return Operated::Panics(PanicKind::Slice);
@@ -259,7 +259,7 @@ fn slice_between(slice: Slice, low: i128, high: i128) -> Operated
 
 /// A part of a slice, between two bounds.
 fn cut_slice(slice: &Slot, low: &Slot, high: &Slot) -> Operated
-    ensures { told result ≡ operate (On_slice slices.Cut) (slice.now ∷ low.now ∷ high.now ∷ []) }
+    ensures { operated_of result ≡ operate (On_slice slices.Cut) (slice.now ∷ low.now ∷ high.now ∷ []) }
 {
     let Some(slice) = slice.as_slice() else {
         return Operated::Senseless;
@@ -275,7 +275,7 @@ fn cut_slice(slice: &Slot, low: &Slot, high: &Slot) -> Operated
 
 /// How many elements a slice has.
 fn slice_length(slice: &Slot) -> Operated
-    ensures { told result ≡ operate (On_slice slices.Length) (slice.now ∷ []) }
+    ensures { operated_of result ≡ operate (On_slice slices.Length) (slice.now ∷ []) }
 {
     match slice.as_slice() {
         Some(slice) => number(i128::from(slice.length)),
@@ -285,7 +285,7 @@ fn slice_length(slice: &Slot) -> Operated
 
 /// How many elements a slice has room for.
 fn capacity(slice: &Slot) -> Operated
-    ensures { told result ≡ operate (On_slice slices.Capacity) (slice.now ∷ []) }
+    ensures { operated_of result ≡ operate (On_slice slices.Capacity) (slice.now ∷ []) }
 {
     match slice.as_slice() {
         Some(slice) => number(i128::from(slice.capacity)),
@@ -296,7 +296,7 @@ fn capacity(slice: &Slot) -> Operated
 /// What comes of an operator on a slice.
 fn operate_slice(operator: SliceOperator, cells: &[Slot]) -> Operated
     requires { length cells.now ≡ operands (On_slice operator) }
-    ensures { told result ≡ operate (On_slice operator) cells.now }
+    ensures { operated_of result ≡ operate (On_slice operator) cells.now }
 {
     match operator {
         SliceOperator::Length => slice_length(&cells[0]),
@@ -325,7 +325,7 @@ fn operate_text(
     cells: &[Slot],
 ) -> Result<Operated, AllocError>
     requires { length cells.now ≡ operands (On_text operator) }
-    ensures { IfOk result (λ came. told came ≡ operate (On_text operator) cells.now) }
+    ensures { IfOk result (λ came. operated_of came ≡ operate (On_text operator) cells.now) }
 {
     match operator {
         TextOperator::At => Ok(byte_at(&cells[0], &cells[1])),
@@ -338,7 +338,7 @@ fn operate_text(
 /// What comes of an operator and its cells. An `Err` only where memory ran out.
 pub fn operate(alloc: Global, operator: Operator, cells: &[Slot]) -> Result<Operated, AllocError>
     requires { length cells.now ≡ operands operator }
-    ensures { IfOk result (λ came. told came ≡ operate operator cells.now) }
+    ensures { IfOk result (λ came. operated_of came ≡ operate operator cells.now) }
 {
     match operator {
         Operator::Arithmetic(operator, kind) => {

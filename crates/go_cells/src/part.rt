@@ -3,7 +3,7 @@ ghost use Rattle.std.specs.Prelude.{◌≡◌, ◌∷◌, [], ◌*◌, ◌+ℤ�
 ghost use Rattle.go_code.specs.Lines.{number_fits};
 ghost use Rattle.go_code.specs.Parts.{part, index_below, offset_of, with_row};
 ghost use Rattle.go_code.specs.declared.instr.PartInstr.TheVariants.{Move, Index, Reach};
-ghost use Rattle.go_cells.specs.Told.{told_index, told_offset};
+ghost use Rattle.go_cells.specs.Results.{operated_index, operated_offset};
 
 use crate::operate::Operated;
 use crate::slot::Slot;
@@ -22,7 +22,7 @@ pub enum Indexed {
 
 /// The element that an index leads to, of so many.
 pub fn index_below(count: usize, index: &Slot) -> Indexed
-    ensures { told_index result ≡ index_below count index.now }
+    ensures { operated_index result ≡ index_below count index.now }
 {
     let Some(index) = index.as_number() else {
         return Indexed::Senseless;
@@ -35,7 +35,7 @@ pub fn index_below(count: usize, index: &Slot) -> Indexed
 
 /// An offset that is moved.
 pub fn moved(offset: &Slot, by: usize) -> Operated
-    ensures { told_offset result ≡ part (Move by) (offset.now ∷ []) }
+    ensures { operated_offset result ≡ part (Move by) (offset.now ∷ []) }
 {
     let Some(offset) = offset.as_number() else {
         return Operated::Senseless;
@@ -49,7 +49,7 @@ pub fn moved(offset: &Slot, by: usize) -> Operated
 /// The offset of an element of a size, behind the first one's.
 fn offset_of(first: i128, index: usize, size: usize) -> Operated
     requires { number_fits first ≡ true }
-    ensures { told_offset result ≡ offset_of (first +ℤ pos (index * size)) }
+    ensures { operated_offset result ≡ offset_of (first +ℤ pos (index * size)) }
 {
     let Some(behind) = i128::from(index as u64).checked_mul(i128::from(size as u64)) else {
         return Operated::Senseless;
@@ -65,7 +65,7 @@ fn offset_of(first: i128, index: usize, size: usize) -> Operated
 
 /// An offset and an index above it, as the offset of the element.
 pub fn element_offset(count: usize, size: usize, offset: &Slot, index: &Slot) -> Operated
-    ensures { told_offset result ≡ part (Index count size) (offset.now ∷ index.now ∷ []) }
+    ensures { operated_offset result ≡ part (Index count size) (offset.now ∷ index.now ∷ []) }
 {
     let Some(first) = offset.as_number() else {
         return Operated::Senseless;
@@ -79,7 +79,7 @@ pub fn element_offset(count: usize, size: usize, offset: &Slot, index: &Slot) ->
 
 /// A slice and an index above it, as the offset of the element in the slice's row.
 pub fn row_offset(size: usize, slice: &Slot, index: &Slot) -> Operated
-    ensures { with_row (told_offset result) slice.now ≡ part (Reach size) (slice.now ∷ index.now ∷ []) }
+    ensures { with_row (operated_offset result) slice.now ≡ part (Reach size) (slice.now ∷ index.now ∷ []) }
 {
     let Some(part) = slice.as_slice() else {
         return Operated::Senseless;

@@ -1,8 +1,8 @@
 //! How long rows may be.
 ghost use Rattle.std.specs.Prelude.{◌≡◌, ◌≤◌, IfSome, MatchOption};
 ghost use Rattle.go_code.specs.Operators.{Gives, Panics};
-ghost use Rattle.go_code.specs.Rows.{has_room, grown, asked};
-ghost use Rattle.go_cells.specs.Told.{told_sizes};
+ghost use Rattle.go_code.specs.Rows.{has_room, grown, make_sizes};
+ghost use Rattle.go_cells.specs.Results.{operated_sizes};
 
 use crate::slot::Slot;
 use go_code::ending::PanicKind;
@@ -54,7 +54,7 @@ pub enum Sizes {
 /// A length and a capacity that are asked for, of a row whose elements have so many cells.
 /// [Making slices](https://go.dev/ref/spec#Making_slices_maps_and_channels)
 pub fn asked(size: usize, length: &Slot, capacity: &Slot) -> Sizes
-    ensures { told_sizes result ≡ asked size length.now capacity.now }
+    ensures { operated_sizes result ≡ make_sizes size length.now capacity.now }
 {
     let Some(length) = length.as_number() else {
         return Sizes::Senseless;

@@ -12,38 +12,38 @@ use Rattle.go_typed.specs.declared.package.Typed.{Typed}
 use Rattle.go_package.specs.Imports.{Importable}
 use Rattle.go_package.specs.Packages.{package_in, IsFaultOf}
 use Rattle.go_package.specs.Typed.{IsTypedIn}
-use Rattle.go_check.specs.Checked.{AreTrees, fmt, AreTyped, HaveFault, edition_of}
-use Rattle.go_check.specs.Told.{IsFaultIn, Tells}
+use Rattle.go_check.specs.Checked.{AreTrees, fmt, AreTyped, HaveFault, package_edition}
+use Rattle.go_check.specs.Results.{IsFaultIn, ChecksTo}
 use Rattle.go_check.specs.declared.error.CheckError.{CheckError}
 use Rattle.go_check.proofs.Some.{of_file}
 
 module _ (path : List ℕ) (files : List Parsed) (imports packages : List Importable) (trees : List File) (parse : AreTrees files trees) (are : packages ≡ fmt ∷ imports) where
-  pub typed_by : (edition : Edition) (names : List (List ℕ)) (t : Package) → edition ≡ edition_of files → names ≡ map (λ f. f.name) files → IsTypedIn edition (package_in edition path trees packages) trees packages names t → AreTyped path files imports t
+  pub typed_by : (edition : Edition) (names : List (List ℕ)) (t : Package) → edition ≡ package_edition files → names ≡ map (λ f. f.name) files → IsTypedIn edition (package_in edition path trees packages) trees packages names t → AreTyped path files imports t
   typed_by edition names t same named typed = record {
     trees = trees;
     parse = parse;
-    is = subst (λ (ns : List (List ℕ)). IsTypedIn (edition_of files) (package_in (edition_of files) path trees (fmt ∷ imports)) trees (fmt ∷ imports) ns t) named
-        (subst (λ (ps : List Importable). IsTypedIn (edition_of files) (package_in (edition_of files) path trees ps) trees ps names t) are
+    is = subst (λ (ns : List (List ℕ)). IsTypedIn (package_edition files) (package_in (package_edition files) path trees (fmt ∷ imports)) trees (fmt ∷ imports) ns t) named
+        (subst (λ (ps : List Importable). IsTypedIn (package_edition files) (package_in (package_edition files) path trees ps) trees ps names t) are
         (subst (λ e. IsTypedIn e (package_in e path trees packages) trees packages names t) same typed));
   }
 
-  same : (edition : Edition) (numbered : ℕ × (Place × FaultKind)) → edition ≡ edition_of files → IsFaultOf edition path trees packages (Some numbered) → IsFaultOf (edition_of files) path trees (fmt ∷ imports) (Some numbered)
+  same : (edition : Edition) (numbered : ℕ × (Place × FaultKind)) → edition ≡ package_edition files → IsFaultOf edition path trees packages (Some numbered) → IsFaultOf (package_edition files) path trees (fmt ∷ imports) (Some numbered)
   same edition numbered is told =
-      subst (λ (ps : List Importable). IsFaultOf (edition_of files) path trees ps (Some numbered)) are
+      subst (λ (ps : List Importable). IsFaultOf (package_edition files) path trees ps (Some numbered)) are
       (subst (λ (e : Edition). IsFaultOf e path trees packages (Some numbered)) is told)
 
-  pub within : (edition : Edition) (numbered : ℕ × (Place × FaultKind)) → edition ≡ edition_of files → IsFaultOf edition path trees packages (Some numbered) → numbered.0 < length files
+  pub within : (edition : Edition) (numbered : ℕ × (Place × FaultKind)) → edition ≡ package_edition files → IsFaultOf edition path trees packages (Some numbered) → numbered.0 < length files
   within edition numbered of is = of_file path files imports trees parse numbered (same edition numbered of is)
 
-  pub fault_by : (edition : Edition) (number : ℕ) (place : Place) (kind : FaultKind) (fault : Fault) → edition ≡ edition_of files → IsFaultOf edition path trees packages (Some (number, (place, kind))) → IsFaultIn files (number, (place, kind)) fault → HaveFault path files imports fault
+  pub fault_by : (edition : Edition) (number : ℕ) (place : Place) (kind : FaultKind) (fault : Fault) → edition ≡ package_edition files → IsFaultOf edition path trees packages (Some (number, (place, kind))) → IsFaultIn files (number, (place, kind)) fault → HaveFault path files imports fault
   fault_by edition number place kind fault of is told = record {
     trees = trees;
     parse = parse;
     number = number;
     name = told.name;
-    is = subst (λ (x : Place × FaultKind). IsFaultOf (edition_of files) path trees (fmt ∷ imports) (Some (number, x))) told.same (same edition (number, (place, kind)) of is);
+    is = subst (λ (x : Place × FaultKind). IsFaultOf (package_edition files) path trees (fmt ∷ imports) (Some (number, x))) told.same (same edition (number, (place, kind)) of is);
   }
 
-pub typed_told : (path : List ℕ) (files : List Parsed) (imports : List Importable) (result : Result Typed CheckError) → Tells path files imports result → IfOk result (λ t. AreTyped path files imports (typed_of t))
+pub typed_told : (path : List ℕ) (files : List Parsed) (imports : List Importable) (result : Result Typed CheckError) → ChecksTo path files imports result → IfOk result (λ t. AreTyped path files imports (typed_of t))
 typed_told path files imports (Ok t) is = is
 typed_told path files imports (Err error) is = tt

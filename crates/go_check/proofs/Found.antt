@@ -19,11 +19,11 @@ use Rattle.indexmap.proofs.CallerLemmas.{insert_entry-new}
 use Rattle.go_expr.specs.declared.known.Declared as declared
 use Rattle.go_expr.specs.Known as known
 use Rattle.go_expr.specs.Known.{Names}
-use Rattle.go_expr.specs.Seen.{declared_of, names_of}
+use Rattle.go_expr.specs.Views.{declared_of, names_of}
 use Rattle.go_export.specs.Exports.{Export, Exports}
-use Rattle.go_export.specs.Views.{all_of}
+use Rattle.go_export.specs.Views.{all_exports}
 use Rattle.go_export.specs.declared.export.Export as rust
-use Rattle.go_check.specs.Names.{declared_as, names_by}
+use Rattle.go_check.specs.Names.{export_declares, names_by}
 
 abbrev pub name_cmp : List ℕ → List ℕ → Ordering
 name_cmp = slice_cmp nat_cmp
@@ -37,12 +37,12 @@ Below x names = AllByRecursion (λ y. name_cmp x y ≡ Less) names
 
 -- ---- order
 
-below_names : (x : String Global) (es : List (String Global × rust.Export)) → AllByRecursion (λ y. string_cmp x y ≡ Less) (keys_of es) → Below (string_bytes x) (keys_of (all_of es))
+below_names : (x : String Global) (es : List (String Global × rust.Export)) → AllByRecursion (λ y. string_cmp x y ≡ Less) (keys_of es) → Below (string_bytes x) (keys_of (all_exports es))
 below_names x [] h = h
 below_names x (e ∷ es) h = (h.0, below_names x es h.1)
 
 -- names of the code in order are in order
-pub ordered : (es : List (String Global × rust.Export)) → IsStrictlySortedBy string_cmp (keys_of es) → IsStrictlySortedBy name_cmp (keys_of (all_of es))
+pub ordered : (es : List (String Global × rust.Export)) → IsStrictlySortedBy string_cmp (keys_of es) → IsStrictlySortedBy name_cmp (keys_of (all_exports es))
 unfolding IsStrictlySortedBy
 ordered [] h = h
 ordered (e ∷ es) h = (below_names e.0 es h.0, ordered es h.1)
@@ -77,12 +77,12 @@ absent k v (e ∷ es) after h = rw (unlike (string_bytes e.0) k (below_next (str
 pub one_more : {S : Type 0} (m : IndexMap (String Global) (Option declared.Declared) S) (new : List (String Global × Option declared.Declared)) (key : String Global) (d : declared.Declared)
     (path name : List ℕ) (export : Export) (left rest : Exports) (all : Names) →
     IsStrictlySortedBy name_cmp (keys_of all) → names_of m ++ names_by path left ≡ all → left ≡ (name, export) ∷ rest → string_bytes key ≡ name →
-    declared_of d ≡ declared_as path name export → new ≡ insert_entry string_eq m.entries key (Some d) → map entry_of new ++ names_by path rest ≡ all
+    declared_of d ≡ export_declares path name export → new ≡ insert_entry string_eq m.entries key (Some d) → map entry_of new ++ names_by path rest ≡ all
 one_more m new key d path name export left rest all sorted before next text declares inserted =
-    let mine : List ℕ × Option known.Declared = (name, Some (declared_as path name export)) in
+    let mine : List ℕ × Option known.Declared = (name, Some (export_declares path name export)) in
     let whole : names_of m ++ mine ∷ names_by path rest ≡ all = ap (λ l. names_of m ++ names_by path l) (sym next) ∙ before in
     let none : lookup (λ s. bytes_eq name (string_bytes s)) m.entries ≡ None =
-    absent name (Some (declared_as path name export)) m.entries (names_by path rest) (subst (λ (l : Names). IsStrictlySortedBy name_cmp (keys_of l)) (sym whole) sorted) in
+    absent name (Some (export_declares path name export)) m.entries (names_by path rest) (subst (λ (l : Names). IsStrictlySortedBy name_cmp (keys_of l)) (sym whole) sorted) in
     let free : get string_eq m key ≡ None = ap (λ n. lookup (λ s. bytes_eq n (string_bytes s)) m.entries) text ∙ none in
     let entry : entry_of (key, Some d) ≡ mine = ap (λ n. (n, Some (declared_of d))) text ∙ ap (λ v. (name, Some v)) declares in
     ap (λ l. map entry_of l ++ names_by path rest) (inserted ∙ insert_entry-new string_eq m key (Some d) free)

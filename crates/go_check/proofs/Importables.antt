@@ -7,11 +7,11 @@ use Rattle.std.proofs.lemmas.List.{take_more, map-append}
 use Rattle.std.proofs.lemmas.Option.{slice_get-map, slice_get_read}
 use Rattle.std.proofs.lemmas.Simd.{map-map}
 use Rattle.go_expr.specs.Known.{Names}
-use Rattle.go_expr.specs.Seen.{names_of}
+use Rattle.go_expr.specs.Views.{names_of}
 use Rattle.go_export.specs.Summaries.{Summary}
 use Rattle.go_check.specs.Names.{importable_by, summary_names}
 use Rattle.go_package.specs.Imports as imports
-use Rattle.go_package.specs.Seen.{importable_of, importables_of}
+use Rattle.go_package.specs.Views.{importable_view, importables_of}
 use Rattle.go_package.specs.declared.import.Importable.{Importable}
 use Rattle.go_check.specs.Checked.{fmt}
 
@@ -35,15 +35,15 @@ abbrev by : List ℕ → List ℕ → Names → imports.Importable
 by path name exports = record { path = path; name = name; exports = exports }
 
 -- the package of a summary
-pub seen : (x : Importable) (s : Summary) → x.path.now ≡ s.path → x.name.now ≡ s.«package» → names_of x.exports.now ≡ summary_names s → importable_of x ≡ importable_by s
+pub seen : (x : Importable) (s : Summary) → x.path.now ≡ s.path → x.name.now ≡ s.«package» → names_of x.exports.now ≡ summary_names s → importable_view x ≡ importable_by s
 seen x s path name exports =
     ap (λ p. by p x.name.now (names_of x.exports.now)) path ∙ ap (λ n. by s.path n (names_of x.exports.now)) name ∙ ap (by s.path s.«package») exports
 
 -- one package more
 pub pushed : (done all : List Importable) (x : Importable) (shown : imports.Importable) (so_far next : List imports.Importable) →
-    all ≡ done ++ x ∷ [] → importable_of x ≡ shown → importables_of done ≡ so_far → so_far ++ shown ∷ [] ≡ next → importables_of all ≡ next
+    all ≡ done ++ x ∷ [] → importable_view x ≡ shown → importables_of done ≡ so_far → so_far ++ shown ∷ [] ≡ next → importables_of all ≡ next
 pushed done all x shown so_far next grown is before then =
-    ap importables_of grown ∙ map-append importable_of done (x ∷ []) ∙ ap (λ i. map importable_of done ++ i ∷ []) is ∙ ap (λ l. l ++ shown ∷ []) before ∙ then
+    ap importables_of grown ∙ map-append importable_view done (x ∷ []) ∙ ap (λ i. map importable_view done ++ i ∷ []) is ∙ ap (λ l. l ++ shown ∷ []) before ∙ then
 
 -- and one summary
 pub next_of : {Z : Type 0} (summaries : List (Arc Summary Z)) (k : ℕ) (s : Arc Summary Z) → k < length summaries → s ≡ get_or summaries k s →

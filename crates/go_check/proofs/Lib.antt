@@ -1,8 +1,8 @@
-pub mod Answered
+mod Answered
 pub mod BySummaries
-pub mod Found
-pub mod Importables
+mod Found
+mod Importables
 pub mod One
-pub mod SameImportable
+mod SameImportable
 pub mod Some
-pub mod Trees
+mod Trees

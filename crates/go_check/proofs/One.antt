@@ -15,7 +15,7 @@ use Rattle.go_package.specs.Typed.{IsTypedIn}
 use Rattle.go_package.proofs.OneFault as fault_once
 use Rattle.go_package.proofs.OneTyped as typed_once
 use Rattle.go_package.proofs.SomeFacts.{typed_or_faulty}
-use Rattle.go_check.specs.Checked.{AreTrees, fmt, AreTyped, HaveFault, edition_of}
+use Rattle.go_check.specs.Checked.{AreTrees, fmt, AreTyped, HaveFault, package_edition}
 
 -- ---- trees
 
@@ -66,21 +66,21 @@ module _ (path : List ℕ) (files : List Parsed) (imports : List Importable) whe
   pub one_typed : (a b : Package) → AreTyped path files imports a → AreTyped path files imports b → a ≡ b
   one_typed a b g h =
       let same = one_trees files h.trees g.trees h.parse g.parse in
-      typed_once.one_typed (package_in (edition_of files) path g.trees all) g.trees all (edition_of files) names a b g.is
-      (subst (λ trees. IsTypedIn (edition_of files) (package_in (edition_of files) path trees all) trees all names b) same h.is)
+      typed_once.one_typed (package_in (package_edition files) path g.trees all) g.trees all (package_edition files) names a b g.is
+      (subst (λ trees. IsTypedIn (package_edition files) (package_in (package_edition files) path trees all) trees all names b) same h.is)
 
   pub not_both : (typed : Package) (fault : Fault) → AreTyped path files imports typed → HaveFault path files imports fault → ⊥
   not_both typed fault h g =
       let same = one_trees files g.trees h.trees g.parse h.parse in
-      typed_or_faulty (package_in (edition_of files) path h.trees all) h.trees all (edition_of files) names typed (numbered g.number fault) h.is
-      (subst (λ trees. IsFaultOf (edition_of files) path trees all (Some (numbered g.number fault))) same g.is)
+      typed_or_faulty (package_in (package_edition files) path h.trees all) h.trees all (package_edition files) names typed (numbered g.number fault) h.is
+      (subst (λ trees. IsFaultOf (package_edition files) path trees all (Some (numbered g.number fault))) same g.is)
 
   pub one_fault : (a b : Fault) → HaveFault path files imports a → HaveFault path files imports b → a ≡ b
   unfolding told
   one_fault a b g h =
       let same = one_trees files h.trees g.trees h.parse g.parse in
-      let other = subst (λ trees. IsFaultOf (edition_of files) path trees all (Some (numbered h.number b))) same h.is in
-      let e = fault_once.one_fault (package_in (edition_of files) path g.trees all) g.trees all (Some (numbered g.number a)) (Some (numbered h.number b)) g.is other in
+      let other = subst (λ trees. IsFaultOf (package_edition files) path trees all (Some (numbered h.number b))) same h.is in
+      let e = fault_once.one_fault (package_in (package_edition files) path g.trees all) g.trees all (Some (numbered g.number a)) (Some (numbered h.number b)) g.is other in
       let parts : numbered g.number a ≡ numbered h.number b = ap (told (numbered g.number a)) e in
       let number : g.number ≡ h.number = ap (λ (x : Numbered). x.0) parts in
       let place : a.place ≡ b.place = ap (λ (x : Numbered). (x.1).0) parts in

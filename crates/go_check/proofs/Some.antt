@@ -15,7 +15,7 @@ use Rattle.go_package.specs.Packages.{package_in, IsFaultOf}
 use Rattle.go_package.specs.Typed.{IsTypedIn}
 use Rattle.go_package.proofs.SomeFacts.{fault_or_typed}
 use Rattle.go_package.proofs.Within.{fault_within}
-use Rattle.go_check.specs.Checked.{AreTrees, fmt, AreTyped, HaveFault, edition_of}
+use Rattle.go_check.specs.Checked.{AreTrees, fmt, AreTyped, HaveFault, package_edition}
 use Rattle.go_check.proofs.Trees.{trees_counted}
 
 module _ (path : List ℕ) (files : List Parsed) (imports : List Importable) (trees : List File) (parse : AreTrees files trees) where
@@ -26,13 +26,13 @@ module _ (path : List ℕ) (files : List Parsed) (imports : List Importable) (tr
   names = map (λ (f : Parsed). f.name) files
 
   -- the number of a fault is that of a file
-  pub of_file : (fault : ℕ × (Place × FaultKind)) → IsFaultOf (edition_of files) path trees all (Some fault) → fault.0 < length files
-  of_file fault is = subst (λ n. fault.0 < n) (trees_counted files trees parse) (fault_within (edition_of files) path trees all fault is)
+  pub of_file : (fault : ℕ × (Place × FaultKind)) → IsFaultOf (package_edition files) path trees all (Some fault) → fault.0 < length files
+  of_file fault is = subst (λ n. fault.0 < n) (trees_counted files trees parse) (fault_within (package_edition files) path trees all fault is)
 
   named : (n : ℕ) → n < length files → slice_get names n ≡ Some (get_or names n [])
   named n within = slice_get-get_or names n [] (subst (λ m. n < m) (sym (length-map files (λ (f : Parsed). f.name))) within)
 
-  by_either : ((fault : ℕ × (Place × FaultKind)) × IsFaultOf (edition_of files) path trees all (Some fault)) ⊎ ((t : Package) × IsTypedIn (edition_of files) (package_in (edition_of files) path trees all) trees all names t) →
+  by_either : ((fault : ℕ × (Place × FaultKind)) × IsFaultOf (package_edition files) path trees all (Some fault)) ⊎ ((t : Package) × IsTypedIn (package_edition files) (package_in (package_edition files) path trees all) trees all names t) →
       ((typed : Package) × AreTyped path files imports typed) ⊎ ((fault : Fault) × HaveFault path files imports fault)
   by_either (inl ((n, (place, kind)), is)) = inr (
     record { file = get_or names n []; place = place; kind = kind },
@@ -41,4 +41,4 @@ module _ (path : List ℕ) (files : List Parsed) (imports : List Importable) (tr
   by_either (inr (t, is)) = inl (t, record { trees = trees; parse = parse; is = is })
 
   pub some_check : ((typed : Package) × AreTyped path files imports typed) ⊎ ((fault : Fault) × HaveFault path files imports fault)
-  some_check = by_either (fault_or_typed (package_in (edition_of files) path trees all) trees all (edition_of files) names)
+  some_check = by_either (fault_or_typed (package_in (package_edition files) path trees all) trees all (package_edition files) names)

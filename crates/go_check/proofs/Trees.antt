@@ -10,9 +10,9 @@ use Rattle.go_ast.specs.Trees.{File as Tree}
 use Rattle.go_ast.specs.Parse.{Parsed, Derived, IsParse}
 use Rattle.go_ast.specs.Views.{file_of}
 use Rattle.go_ast.specs.declared.file.File.{File}
-use Rattle.go_package.specs.Seen.{files_of}
+use Rattle.go_package.specs.Views.{files_of}
 use Rattle.go_check.specs.Checked.{AreTrees}
-use Rattle.go_check.specs.Told.{IsFaultIn}
+use Rattle.go_check.specs.Results.{IsFaultIn}
 
 -- one more
 trees_push : (files : List Parsed) (trees : List Tree) (file : Parsed) (tree : Tree) → AreTrees files trees → IsParse file.edition file.text (Derived tree) → AreTrees (files ++ file ∷ []) (trees ++ tree ∷ [])

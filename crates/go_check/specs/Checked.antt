@@ -27,14 +27,14 @@ abbrev pub fmt : Importable
 fmt = record { path = codes "fmt"; name = codes "fmt"; exports = library }
 
 -- the edition that the files of a package are written in: where they differ, that of the first
-abbrev pub edition_of : List Parsed → Edition
-edition_of files = elim files [ [] ↦ One | file ∷ rest ↦ file.edition ]
+abbrev pub package_edition : List Parsed → Edition
+package_edition files = elim files [ [] ↦ One | file ∷ rest ↦ file.edition ]
 
 -- the files at a path, which may import these packages too, are typed to this one
 pub record AreTyped (path : List ℕ) (files : List Parsed) (imports : List Importable) (typed : Package) : Type 0 where
   pub trees : List File
   pub parse : AreTrees files trees
-  pub is : IsTypedIn (edition_of files) (package_in (edition_of files) path trees (fmt ∷ imports)) trees (fmt ∷ imports) (map (λ f. f.name) files) typed
+  pub is : IsTypedIn (package_edition files) (package_in (package_edition files) path trees (fmt ∷ imports)) trees (fmt ∷ imports) (map (λ f. f.name) files) typed
 
 -- or this is the first fault of their package, in the file of that number
 pub record HaveFault (path : List ℕ) (files : List Parsed) (imports : List Importable) (fault : Fault) : Type 0 where
@@ -42,7 +42,7 @@ pub record HaveFault (path : List ℕ) (files : List Parsed) (imports : List Imp
   pub parse : AreTrees files trees
   pub number : ℕ
   pub name : slice_get (map (λ f. f.name) files) number ≡ Some fault.file
-  pub is : IsFaultOf (edition_of files) path trees (fmt ∷ imports) (Some (number, (fault.place, fault.kind)))
+  pub is : IsFaultOf (package_edition files) path trees (fmt ∷ imports) (Some (number, (fault.place, fault.kind)))
 
 -- they are typed, or have a fault
 abbrev pub AreTypedOrFaulty : List ℕ → List Parsed → List Importable → Type 0

@@ -1,3 +1,3 @@
 pub mod Checked
 pub mod Names
-pub mod Told
+pub mod Results

@@ -12,14 +12,14 @@ abbrev pub symbol_of : List ℕ → List ℕ → Symbol
 symbol_of path name = record { path = path; name = name }
 
 -- what a name declares that the package of a path exports
-abbrev pub declared_as : List ℕ → List ℕ → Export → Declared
-declared_as path name (exports.constant t c) = value (typed.constant t c)
-declared_as path name (exports.variable t) = value (typed.global t (symbol_of path name))
-declared_as path name (exports.function ts rs) = function (symbol_of path name) ts rs
-declared_as path name (exports.type' t) = type' t
+abbrev pub export_declares : List ℕ → List ℕ → Export → Declared
+export_declares path name (exports.constant t c) = value (typed.constant t c)
+export_declares path name (exports.variable t) = value (typed.global t (symbol_of path name))
+export_declares path name (exports.function ts rs) = function (symbol_of path name) ts rs
+export_declares path name (exports.type' t) = type' t
 
 abbrev pub names_by : List ℕ → Exports → Names
-names_by path es = map (λ e. (e.0, Some (declared_as path e.0 e.1))) es
+names_by path es = map (λ e. (e.0, Some (export_declares path e.0 e.1))) es
 
 -- a package that can be imported, by its summary
 abbrev pub summary_names : Summary → Names

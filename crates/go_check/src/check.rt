@@ -5,11 +5,11 @@ ghost use Rattle.std.specs.Arc.{arc_value};
 ghost use Rattle.go_text.specs.Faults.{Fault as AFault};
 ghost use Rattle.go_typed.specs.Views.{typed_of};
 ghost use Rattle.go_expr.specs.Known.{library};
-ghost use Rattle.go_expr.specs.Seen.{names_of};
+ghost use Rattle.go_expr.specs.Views.{names_of};
 ghost use Rattle.go_check.specs.Names.{importable_by, summary_names};
-ghost use Rattle.go_package.specs.Seen.{importables_of};
+ghost use Rattle.go_package.specs.Views.{importables_of};
 ghost use Rattle.go_check.specs.Checked.{AreTyped, HaveFault, fmt};
-ghost use Rattle.go_check.specs.Told.{Tells};
+ghost use Rattle.go_check.specs.Results.{ChecksTo};
 ghost use Rattle.go_check.specs.declared.error.CheckError.TheVariants as errors;
 
 use crate::error::CheckError;
@@ -87,7 +87,7 @@ fn check_told(
     files: &[Parsed],
     imports: &[Arc<Summary>],
 ) -> Result<Typed, CheckError>
-    ensures { Tells path.now files.now (map importable_by (map arc_value imports.now)) result }
+    ensures { ChecksTo path.now files.now (map importable_by (map arc_value imports.now)) result }
 {
     let library_names = library(alloc)?;
     let exports = exports_of(alloc, imports)?;

@@ -1,8 +1,8 @@
 //! Files that were parsed: their names, their trees, and faults in them.
 ghost use Rattle.std.specs.Prelude.{◌≡◌, ◌<◌, map, length, IfOk};
-ghost use Rattle.go_package.specs.Seen.{files_of};
-ghost use Rattle.go_check.specs.Checked.{AreTrees, edition_of};
-ghost use Rattle.go_check.specs.Told.{IsFaultIn};
+ghost use Rattle.go_package.specs.Views.{files_of};
+ghost use Rattle.go_check.specs.Checked.{AreTrees, package_edition};
+ghost use Rattle.go_check.specs.Results.{IsFaultIn};
 
 use go_ast::file::File;
 use go_ast::parsed::Parsed;
@@ -13,7 +13,7 @@ use std::alloc::{AllocError, Global};
 
 /// The edition that the files of a package are written in: that of the first.
 pub(crate) fn edition_of(files: &[Parsed]) -> Edition
-    ensures { result ≡ edition_of files.now }
+    ensures { result ≡ package_edition files.now }
 {
     match files {
         [] => Edition::One,

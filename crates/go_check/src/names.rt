@@ -1,9 +1,9 @@
 //! What the names of an imported package declare.
 //! [Qualified identifiers](https://go.dev/ref/spec#Qualified_identifiers)
 ghost use Rattle.std.specs.Prelude.{◌≡◌, IfOk};
-ghost use Rattle.go_expr.specs.Seen.{declared_of, names_of};
+ghost use Rattle.go_expr.specs.Views.{declared_of, names_of};
 ghost use Rattle.go_export.specs.Views.{export_of};
-ghost use Rattle.go_check.specs.Names.{symbol_of, declared_as, summary_names};
+ghost use Rattle.go_check.specs.Names.{symbol_of, export_declares, summary_names};
 
 use go_export::export::{Export, copy_types};
 use go_export::summary::Summary;
@@ -29,7 +29,7 @@ fn declared_as(
     name: &str,
     export: &Export,
 ) -> Result<Declared, AllocError>
-    ensures { IfOk result (λ d. declared_of d ≡ declared_as path.now name.now (export_of export.now)) }
+    ensures { IfOk result (λ d. declared_of d ≡ export_declares path.now name.now (export_of export.now)) }
 {
     Ok(match export {
         Export::Constant(of, value) => Declared::Constant(of.copy()?, value.copy()?),

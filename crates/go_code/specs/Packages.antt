@@ -2,7 +2,7 @@
 use Rattle.std.specs.Prelude.{ℕ, List}
 use Rattle.go_text.specs.declared.edition.Edition.{Edition}
 use Rattle.go_code.specs.declared.cell.Cell.{Cell}
-use Rattle.go_code.specs.Functions.{Function, Setup}
+use Rattle.go_code.specs.Functions.{FunctionCode, Setup}
 use Rattle.go_symbol.specs.Symbols.{Symbol}
 
 -- a variable's name, and the cells of its zero value
@@ -13,7 +13,7 @@ pub record PackageVariable : Type 0 where
 -- a function with its name
 pub record PackageFunction : Type 0 where
   pub name : List ℕ
-  pub function : Function Symbol
+  pub function : FunctionCode Symbol
 
 -- a package's path, its name, the edition that it is of, its variables and functions in declaration order, and its setups in order
 pub record Object : Type 0 where

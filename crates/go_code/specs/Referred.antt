@@ -6,7 +6,7 @@ use Rattle.go_code.specs.declared.instr.AccessInstr.{AccessInstr}
 use Rattle.go_code.specs.declared.instr.AccessInstr.TheVariants.{Load, Store, LoadAt, StoreAt}
 use Rattle.go_code.specs.declared.instr.CallInstr.{CallInstr}
 use Rattle.go_code.specs.declared.instr.CallInstr.TheVariants.{Call, Return}
-use Rattle.go_code.specs.Functions.{Function, Setup}
+use Rattle.go_code.specs.Functions.{FunctionCode, Setup}
 
 -- what becomes of references to functions, and of those to package variables
 pub record Changes (R S : Type 0) : Type 0 where
@@ -14,11 +14,11 @@ pub record Changes (R S : Type 0) : Type 0 where
   pub variables : R → S
 
 -- what the instruction says the place of its cells by
-abbrev pub place_of : {P : Type 0} → AccessInstr P → P
-place_of (Load first count) = first
-place_of (Store first count) = first
-place_of (LoadAt first count) = first
-place_of (StoreAt first count) = first
+abbrev pub reference_of : {P : Type 0} → AccessInstr P → P
+reference_of (Load first count) = first
+reference_of (Store first count) = first
+reference_of (LoadAt first count) = first
+reference_of (StoreAt first count) = first
 
 -- the access with its place changed
 abbrev pub refer_access : {P Q : Type 0} → (P → Q) → AccessInstr P → AccessInstr Q
@@ -45,7 +45,7 @@ refer g (Output i) = Output i
 refer g (By_call i) = By_call (refer_call g.functions i)
 
 -- the function with the references of its code changed
-abbrev pub refer_function : {R S : Type 0} → Changes R S → Function R → Function S
+abbrev pub refer_function : {R S : Type 0} → Changes R S → FunctionCode R → FunctionCode S
 refer_function g f = record { parameters = f.parameters; cells = f.cells; code = map (refer g) f.code }
 
 -- the setup with the references of its code changed

@@ -17,7 +17,7 @@ pub struct Function<R> {
 impl<R> Model for Function<R> {
     ghost use Rattle.go_code.specs.Functions as functions;
 
-    ghost Value = { functions.Function R };
+    ghost Value = { functions.FunctionCode R };
 
     ghost view = { λ a. record { parameters = a.parameters; cells = a.cells; code = a.code.items } };
 }

@@ -20,8 +20,8 @@ literal_of_kind kinds.String = Some literals.String
 literal_of_kind _ = None
 
 -- the type of a token, if it is a literal
-abbrev pub literal_of : Token → Option Literal
-literal_of t = literal_of_kind t.kind
+abbrev pub token_literal : Token → Option Literal
+token_literal t = literal_of_kind t.kind
 
 -- operators whose operands have one type, and that bind tighter than `&&`
 abbrev pub is_operator_kind : TokenKind → Bool
@@ -60,14 +60,14 @@ abbrev pub is_end : Token → Bool
 is_end t = is_end_kind t.kind
 
 -- of two literals one is a number and one a string
-abbrev pub differ : Option Literal → Option Literal → Bool
-differ (Some literals.Number) (Some literals.String) = true
-differ (Some literals.String) (Some literals.Number) = true
-differ _ _ = false
+abbrev pub literals_differ : Option Literal → Option Literal → Bool
+literals_differ (Some literals.Number) (Some literals.String) = true
+literals_differ (Some literals.String) (Some literals.Number) = true
+literals_differ _ _ = false
 
 -- tokens begin with an operation on a number and a string, both literals
 abbrev pub are_mixed : List Token → Bool
-are_mixed (left ∷ operator ∷ right ∷ end ∷ from) = is_operator operator && (is_end end && differ (literal_of left) (literal_of right))
+are_mixed (left ∷ operator ∷ right ∷ end ∷ from) = is_operator operator && (is_end end && literals_differ (token_literal left) (token_literal right))
 are_mixed _ = false
 
 -- tokens that end a statement or an only argument
@@ -81,9 +81,9 @@ abbrev pub ends_value : Token → Bool
 ends_value t = ends_value_kind t.kind
 
 -- the literal that tokens begin with, where it is the last value of a statement or of a call
-abbrev pub value_of : List Token → Option Literal
-value_of (value ∷ end ∷ from) = if ends_value end then literal_of value else None
-value_of _ = None
+abbrev pub value_literal : List Token → Option Literal
+value_literal (value ∷ end ∷ from) = if ends_value end then token_literal value else None
+value_literal _ = None
 
 -- a name, its type and `=`
 abbrev pub is_declaration : Token → Token → Token → Bool
@@ -92,7 +92,7 @@ is_declaration name of assign =
 
 -- the name of its type, and the literal, of a declaration that gives one name a literal
 abbrev pub declared : List Token → Option (Token × Literal)
-declared (name ∷ of ∷ assign ∷ value) = if is_declaration name of assign then option_map (λ literal. (of, literal)) (value_of value) else None
+declared (name ∷ of ∷ assign ∷ value) = if is_declaration name of assign then option_map (λ literal. (of, literal)) (value_literal value) else None
 declared _ = None
 
 abbrev pub is_before_value : TokenKind → Bool
@@ -105,14 +105,14 @@ abbrev pub takes_value : Token → Token → Bool
 takes_value name mark = kind_eq name.kind kinds.Name && is_before_value mark.kind
 
 -- the literal that `return` has alone
-abbrev pub returned : List Token → Option Literal
-returned [] = None
-returned (word ∷ value) = if kind_eq word.kind (kinds.Keyword words.Return) then value_of value else None
+abbrev pub returned_literal : List Token → Option Literal
+returned_literal [] = None
+returned_literal (word ∷ value) = if kind_eq word.kind (kinds.Keyword words.Return) then value_literal value else None
 
 -- the literal that a name is assigned, a function is called with alone, or `return` has alone
-abbrev pub assigned : List Token → Option Literal
-assigned (name ∷ mark ∷ value) = if takes_value name mark then value_of value else returned (name ∷ mark ∷ value)
-assigned _ = None
+abbrev pub assigned_literal : List Token → Option Literal
+assigned_literal (name ∷ mark ∷ value) = if takes_value name mark then value_literal value else returned_literal (name ∷ mark ∷ value)
+assigned_literal _ = None
 
 abbrev pub message_of : Literal → Message
 message_of literals.Number = messages.NumberValue
@@ -121,5 +121,5 @@ message_of literals.String = messages.StringValue
 -- what literals tell of a place at which types don't go together
 abbrev pub literal_message : FaultKind → List Token → Option Message
 literal_message faults.Mismatch from = if are_mixed from then Some messages.StringAndNumber else None
-literal_message faults.Assign from = option_map message_of (assigned from)
+literal_message faults.Assign from = option_map message_of (assigned_literal from)
 literal_message _ from = None

@@ -6,18 +6,18 @@ use Rattle.go_text.specs.declared.fault.FaultKind.TheVariants as faults
 use Rattle.go_scan.specs.declared.token.Token.{Token}
 use Rattle.go_diagnostics.specs.declared.message.Message.{Message}
 use Rattle.go_diagnostics.specs.declared.message.Message.TheVariants as messages
-use Rattle.go_diagnostics.specs.Forms.{rows_of, rows_of_edition, first_of}
+use Rattle.go_diagnostics.specs.Forms.{rows_of_fault, rows_of_edition, first_row_message}
 use Rattle.go_diagnostics.specs.Literals.{literal_message}
 use Rattle.go_diagnostics.specs.Tokens.{name_here}
 
 -- names with what is said of them
-abbrev pub Names : Type 0
-Names = List (List ℕ × Message)
+abbrev pub NameMessages : Type 0
+NameMessages = List (List ℕ × Message)
 
 -- those of which something is said where a fault of a kind stands: names that Go declares and the subset or its first edition leaves out,
 -- functions that take operands of some types alone, and fmt
-abbrev pub names_of : FaultKind → Names
-names_of faults.LeftOut =
+abbrev pub messages_of : FaultKind → NameMessages
+messages_of faults.LeftOut =
     (codes "_", messages.UnnamedFields) ∷ (codes "any", messages.Interfaces) ∷ (codes "append", messages.SliceFunctions) ∷
     (codes "cap", messages.SliceFunctions) ∷ (codes "clear", messages.Clear) ∷ (codes "close", messages.Channels) ∷
     (codes "comparable", messages.Interfaces) ∷ (codes "complex", messages.Floats) ∷ (codes "complex128", messages.Floats) ∷
@@ -26,27 +26,27 @@ names_of faults.LeftOut =
     (codes "make", messages.SliceFunctions) ∷ (codes "max", messages.MinMax) ∷ (codes "min", messages.MinMax) ∷ (codes "new", messages.Pointers) ∷
     (codes "nil", messages.Nil) ∷ (codes "print", messages.Print) ∷ (codes "println", messages.Print) ∷ (codes "real", messages.Floats) ∷
     (codes "recover", messages.Recover) ∷ (codes "uintptr", messages.Uintptr) ∷ []
-names_of faults.Mismatch =
+messages_of faults.Mismatch =
     (codes "append", messages.AppendOperand) ∷ (codes "cap", messages.CapOperand) ∷ (codes "fmt", messages.PrintlnOperand) ∷
     (codes "len", messages.LenOperand) ∷ (codes "make", messages.MakeOperand) ∷ []
-names_of faults.Undeclared = (codes "fmt", messages.FmtNames) ∷ []
-names_of _ = []
+messages_of faults.Undeclared = (codes "fmt", messages.FmtNames) ∷ []
+messages_of _ = []
 
 -- what is said of a name
-abbrev pub message_named : Names → List ℕ → Option Message
+abbrev pub message_named : NameMessages → List ℕ → Option Message
 message_named [] name = None
 message_named (n ∷ names) name = if bytes_eq n.0 name then Some n.1 else message_named names name
 
-abbrev pub message_here : Names → List ℕ → List Token → Option Message
+abbrev pub message_here : NameMessages → List ℕ → List Token → Option Message
 message_here names text from = elim (name_here text from) [ None ↦ None | Some name ↦ message_named names name ]
 
 -- the first, if there is one, else the second
-abbrev pub either : Option Message → Option Message → Option Message
-either None second = second
-either (Some m) second = Some m
+abbrev pub first_message : Option Message → Option Message → Option Message
+first_message None second = second
+first_message (Some m) second = Some m
 
 -- what is said of a place at which a fault of a kind stands
 abbrev pub message_at : Edition → FaultKind → List ℕ → List Token → List Token → Option Message
 message_at edition kind text before from =
-    let formed = either (first_of (rows_of_edition edition kind) before from) (first_of (rows_of kind) before from) in
-    either (message_here (names_of kind) text from) (either formed (literal_message kind from))
+    let formed = first_message (first_row_message (rows_of_edition edition kind) before from) (first_row_message (rows_of_fault kind) before from) in
+    first_message (message_here (messages_of kind) text from) (first_message formed (literal_message kind from))

@@ -45,25 +45,25 @@ token_at positions.Bracket before from = slice_get (enclosing 0 before) 0
 token_at positions.BeforeBracket before from = slice_get (enclosing 0 before) 1
 
 -- there is a token, and it is of the kind
-abbrev pub is_of : Option Token → TokenKind → Bool
-is_of None kind = false
-is_of (Some t) kind = kind_eq t.kind kind
+abbrev pub is_of_kind : Option Token → TokenKind → Bool
+is_of_kind None kind = false
+is_of_kind (Some t) kind = kind_eq t.kind kind
 
 -- a token may stand there, or none
-abbrev pub fits : Pattern → Option Token → Bool
-fits patterns.Any token = true
-fits patterns.Nothing token = is_none token
-fits patterns.Name token = is_of token kinds.Name
-fits patterns.Integer token = is_of token kinds.Integer
-fits patterns.Rune token = is_of token kinds.Rune
-fits patterns.String token = is_of token kinds.String
-fits (patterns.Word keyword) token = is_of token (kinds.Keyword keyword)
-fits (patterns.Mark punctuation) token = is_of token (kinds.Punctuation punctuation)
+abbrev pub pattern_fits : Pattern → Option Token → Bool
+pattern_fits patterns.Any token = true
+pattern_fits patterns.Nothing token = is_none token
+pattern_fits patterns.Name token = is_of_kind token kinds.Name
+pattern_fits patterns.Integer token = is_of_kind token kinds.Integer
+pattern_fits patterns.Rune token = is_of_kind token kinds.Rune
+pattern_fits patterns.String token = is_of_kind token kinds.String
+pattern_fits (patterns.Word keyword) token = is_of_kind token (kinds.Keyword keyword)
+pattern_fits (patterns.Mark punctuation) token = is_of_kind token (kinds.Punctuation punctuation)
 
 -- such a token, or none, stands at the position
 abbrev pub is_met : Position × Pattern → List Token → List Token → Bool
-is_met condition before from = fits condition.1 (token_at condition.0 before from)
+is_met condition before from = pattern_fits condition.1 (token_at condition.0 before from)
 
 -- all conditions hold around a place
-abbrev pub holds : (Position × Pattern) × (Position × Pattern) × (Position × Pattern) → List Token → List Token → Bool
-holds conditions before from = is_met conditions.0 before from && (is_met conditions.1 before from && is_met conditions.2 before from)
+abbrev pub conditions_hold : (Position × Pattern) × (Position × Pattern) × (Position × Pattern) → List Token → List Token → Bool
+conditions_hold conditions before from = is_met conditions.0 before from && (is_met conditions.1 before from && is_met conditions.2 before from)

@@ -1,7 +1,7 @@
 //! What literals at a place tell of types.
 ghost use Rattle.std.specs.Prelude.{◌≡◌};
-ghost use Rattle.go_diagnostics.specs.Literals.{are_mixed, assigned, declared, differ, ends_value, is_declaration, is_end, is_operator};
-ghost use Rattle.go_diagnostics.specs.Literals.{literal_message, literal_of, takes_value, value_of};
+ghost use Rattle.go_diagnostics.specs.Literals.{are_mixed, assigned_literal, declared, literals_differ, ends_value, is_declaration, is_end, is_operator};
+ghost use Rattle.go_diagnostics.specs.Literals.{literal_message, token_literal, takes_value, value_literal};
 
 use crate::message::Message;
 use go_scan::keyword::Keyword;
@@ -20,7 +20,7 @@ pub enum Literal {
 
 /// The type of a token, if it is a literal.
 fn literal_of(token: Token) -> Option<Literal>
-    ensures { result ≡ literal_of token }
+    ensures { result ≡ token_literal token }
 {
     match token.kind {
         TokenKind::Integer | TokenKind::Rune => Some(Literal::Number),
@@ -75,7 +75,7 @@ fn is_end(token: Token) -> bool
 
 /// Whether of two literals one is a number and one a string.
 fn differ(left: Option<Literal>, right: Option<Literal>) -> bool
-    ensures { result ≡ differ left right }
+    ensures { result ≡ literals_differ left right }
 {
     match (left, right) {
         (Some(Literal::Number), Some(Literal::String)) => true,
@@ -110,7 +110,7 @@ fn ends_value(token: Token) -> bool
 
 /// The literal that tokens begin with, where it is the last value of a statement or of a call.
 fn value_of(from: &[Token]) -> Option<Literal>
-    ensures { result ≡ value_of from.now }
+    ensures { result ≡ value_literal from.now }
 {
     match from {
         [value, end, ..] if ends_value(*end) => literal_of(*value),
@@ -152,7 +152,7 @@ fn takes_value(name: Token, mark: Token) -> bool
 
 /// The literal that a name is assigned, a function is called with alone, or `return` has alone.
 fn assigned(from: &[Token]) -> Option<Literal>
-    ensures { result ≡ assigned from.now }
+    ensures { result ≡ assigned_literal from.now }
 {
     match from {
         [name, mark, value @ ..] if takes_value(*name, *mark) => value_of(value),

@@ -1,7 +1,7 @@
 //! Names that tell what stands at a place.
 ghost use Rattle.std.specs.Prelude.{◌≡◌, map, option_map};
 ghost use Rattle.go_diagnostics.specs.Tokens.{token_bytes, name_here};
-ghost use Rattle.go_diagnostics.specs.Names.{names_of, message_named, either, message_here, message_at};
+ghost use Rattle.go_diagnostics.specs.Names.{messages_of, message_named, first_message, message_here, message_at};
 
 use crate::literals::literal_message;
 use crate::message::Message;
@@ -43,7 +43,7 @@ type Named = (&'static str, Message);
 /// Names of which something is said where a fault of a kind stands: those that Go declares and the
 /// subset or its first edition leaves out, functions that take operands of some types alone, and fmt.
 fn names_of(kind: FaultKind) -> &'static [Named]
-    ensures { map (λ r. (r.0.now, r.1)) result.now ≡ names_of kind }
+    ensures { map (λ r. (r.0.now, r.1)) result.now ≡ messages_of kind }
 {
     match kind {
         FaultKind::LeftOut => &[
@@ -110,7 +110,7 @@ fn message_here(names: &[Named], text: &[u8], from: &[Token]) -> Option<Message>
 
 /// The first, if there is one, else the second.
 fn either(first: Option<Message>, second: Option<Message>) -> Option<Message>
-    ensures { result ≡ either first second }
+    ensures { result ≡ first_message first second }
 {
     match first {
         Some(message) => Some(message),

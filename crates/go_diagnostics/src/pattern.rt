@@ -1,6 +1,6 @@
 //! Patterns of the tokens around a place.
 ghost use Rattle.std.specs.Prelude.{◌≡◌, slice_get};
-ghost use Rattle.go_diagnostics.specs.Patterns.{opens, closes, enclosing, token_at, is_of, fits, is_met, holds};
+ghost use Rattle.go_diagnostics.specs.Patterns.{opens, closes, enclosing, token_at, is_of_kind, pattern_fits, is_met, conditions_hold};
 
 use go_scan::keyword::Keyword;
 use go_scan::punctuation::Punctuation;
@@ -124,7 +124,7 @@ pub fn token_at(position: Position, before: &[Token], from: &[Token]) -> Option<
 }
 
 fn is_of(token: Option<Token>, kind: TokenKind) -> bool
-    ensures { result ≡ is_of token kind }
+    ensures { result ≡ is_of_kind token kind }
 {
     match token {
         Some(token) => token.kind == kind,
@@ -135,7 +135,7 @@ fn is_of(token: Option<Token>, kind: TokenKind) -> bool
 impl Pattern {
     /// Whether a token may stand there, or none.
     pub fn fits(self, token: Option<Token>) -> bool
-        ensures { result ≡ fits self token }
+        ensures { result ≡ pattern_fits self token }
     {
         match self {
             Pattern::Any => true,
@@ -161,7 +161,7 @@ fn is_met(condition: Condition, before: &[Token], from: &[Token]) -> bool
 
 /// Whether all conditions hold around a place.
 pub fn holds(conditions: Conditions, before: &[Token], from: &[Token]) -> bool
-    ensures { result ≡ holds conditions before.now from.now }
+    ensures { result ≡ conditions_hold conditions before.now from.now }
 {
     is_met(conditions.0, before, from)
         && (is_met(conditions.1, before, from) && is_met(conditions.2, before, from))

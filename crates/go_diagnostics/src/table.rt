@@ -1,8 +1,8 @@
 //! The table of forms: which tokens stand around a place where a message is said of it.
 ghost use Rattle.std.specs.Prelude.{◌≡◌};
 ghost use Rattle.std.specs.List.{list_any};
-ghost use Rattle.go_diagnostics.specs.Forms.{rows_of, rows_of_edition, first_of};
-ghost use Rattle.go_diagnostics.specs.Patterns.{holds};
+ghost use Rattle.go_diagnostics.specs.Forms.{rows_of_fault, rows_of_edition, first_row_message};
+ghost use Rattle.go_diagnostics.specs.Patterns.{conditions_hold};
 
 use crate::message::Message;
 use crate::pattern::{Condition, Conditions, Pattern, Position, holds};
@@ -349,7 +349,7 @@ pub const IMPORTS: &[Conditions] = &[
 
 /// The rows that say of which form a fault of a kind is, in both editions.
 pub fn rows_of(kind: FaultKind) -> &'static [Row]
-    ensures { result.now ≡ rows_of kind }
+    ensures { result.now ≡ rows_of_fault kind }
 {
     match kind {
         FaultKind::LeftOut => FORMS,
@@ -374,7 +374,7 @@ pub fn rows_of_edition(edition: Edition, kind: FaultKind) -> &'static [Row]
 
 /// The message of the first row that holds around a place.
 pub fn first_of(rows: &[Row], before: &[Token], from: &[Token]) -> Option<Message>
-    ensures { result ≡ first_of rows.now before.now from.now }
+    ensures { result ≡ first_row_message rows.now before.now from.now }
 {
     for row in rows {
         if holds(row.1, before, from) {
@@ -386,7 +386,7 @@ pub fn first_of(rows: &[Row], before: &[Token], from: &[Token]) -> Option<Messag
 
 /// Whether one of the conditions holds around a place.
 pub fn is_any(rows: &[Conditions], before: &[Token], from: &[Token]) -> bool
-    ensures { result ≡ list_any (λ r. holds r before.now from.now) rows.now }
+    ensures { result ≡ list_any (λ r. conditions_hold r before.now from.now) rows.now }
 {
     for row in rows {
         if holds(*row, before, from) {

@@ -1,8 +1,8 @@
 //! Names that nothing declares, and what may be meant by them.
 ghost use Rattle.std.specs.Prelude.{◌≡◌, ◌++◌, [], IfOk, map, option_map, string_bytes};
 ghost use Rattle.std.specs.List.{filter};
-ghost use Rattle.go_diagnostics.specs.Unknown.{Suggests, SuggestsAmong, SuggestsAt, import_path, is_exported, is_known, is_period, last_element};
-ghost use Rattle.go_diagnostics.specs.Unknown.{pair_of, predeclared, selected, unknown_name, unquoted};
+ghost use Rattle.go_diagnostics.specs.Unknown.{Suggests, SuggestsAmong, SuggestsAt, import_path, is_exported_name, is_known, is_period, last_element};
+ghost use Rattle.go_diagnostics.specs.Unknown.{similar_pair, predeclared, selected_name, unknown_name, unquoted};
 
 use crate::names::{name_here, token_bytes};
 use crate::nearest::nearest;
@@ -110,7 +110,7 @@ fn selected<'a, 'b>(
     from: &'b [Token],
 ) -> Option<(&'a [u8], &'b [Token])>
     ensures { option_map (λ found. (found.0.now, found.1.now)) result
-        ≡ selected (map (λ name. name.now) names.now) text.now tokens.now from.now }
+        ≡ selected_name (map (λ name. name.now) names.now) text.now tokens.now from.now }
 {
     match from {
         [package, period, rest @ ..] => {
@@ -129,7 +129,7 @@ fn selected<'a, 'b>(
 
 /// Whether a name is exported: it begins with a capital letter of ASCII.
 fn is_exported(name: &[u8]) -> bool
-    ensures { result ≡ is_exported name.now }
+    ensures { result ≡ is_exported_name name.now }
 {
     match name {
         [letter, ..] => b'A' <= *letter && *letter <= b'Z',
@@ -140,7 +140,7 @@ fn is_exported(name: &[u8]) -> bool
 /// Those of the names that are exported.
 fn exported<'a>(alloc: Global, names: &[&'a [u8]]) -> Result<Vec<&'a [u8]>, AllocError>
     ensures { IfOk result (λ exported. map (λ name. name.now) exported.items
-        ≡ filter is_exported (map (λ name. name.now) names.now)) }
+        ≡ filter is_exported_name (map (λ name. name.now) names.now)) }
 {
     let mut exported = Vec::new(alloc);
     for name in names {
@@ -180,7 +180,7 @@ fn suggestion_among<'a>(
     from: &[Token],
 ) -> Result<Option<SimilarName<'a>>, AllocError>
     ensures { IfOk result (λ found. SuggestsAmong (map (λ name. name.now) names.now) text.now from.now
-        (option_map pair_of found)) }
+        (option_map similar_pair found)) }
 {
     let Some(unknown) = unknown_name(names, text, from) else {
         return Ok(None);
@@ -202,7 +202,7 @@ fn suggestion_in<'a>(
     from: &[Token],
 ) -> Result<Option<SimilarName<'a>>, AllocError>
     ensures { IfOk result (λ found. SuggestsAt files.now (map (λ name. name.now) known.now)
-        text.now tokens.now from.now (option_map pair_of found)) }
+        text.now tokens.now from.now (option_map similar_pair found)) }
 {
     match selected(known, text, tokens, from) {
         Some((path, rest)) => {
@@ -225,7 +225,7 @@ pub fn suggestion<'a>(
 ) -> Result<Option<SimilarName<'a>>, AllocError>
     ensures { IfOk result (λ found.
         Suggests (string_bytes file.now.directory) files.now file.now.source.text tokens.now from.now
-        (option_map pair_of found)) }
+        (option_map similar_pair found)) }
 {
     let declared = package_names(alloc, files, file.directory.as_str().as_bytes())?;
     let known = with_predeclared(alloc, &declared)?;

@@ -11,7 +11,7 @@ use Rattle.go_types.specs.declared.types.Basic.TheVariants as basics
 use Rattle.go_types.specs.declared.types.Untyped.TheVariants as kinds
 use Rattle.go_types.specs.Types.{basic}
 use Rattle.go_typed.specs.Trees.{Package}
-use Rattle.go_export.specs.Exports.{constant, variable, type', in_order, exports_of}
+use Rattle.go_export.specs.Exports.{constant, variable, type', sorted_by_name, exports_of}
 use Rattle.go_export.specs.Summaries.{summary_of, summary_text}
 
 -- package lib with const k = 2 and const K = 1
@@ -38,6 +38,6 @@ unfolding exports_of summary_text digits chars general_category value_in general
 lib_size = refl
 
 -- by bytes; the first of several stays
-in_byte_order : in_order ((codes "Tb", type' (basic basics.Bool)) ∷ (codes "T", variable (basic basics.Bool)) ∷ (codes "Ta", type' (basic basics.Bool)) ∷ (codes "Tb", variable (basic basics.Bool)) ∷ [])
+in_byte_order : sorted_by_name ((codes "Tb", type' (basic basics.Bool)) ∷ (codes "T", variable (basic basics.Bool)) ∷ (codes "Ta", type' (basic basics.Bool)) ∷ (codes "Tb", variable (basic basics.Bool)) ∷ [])
     ≡ (codes "T", variable (basic basics.Bool)) ∷ (codes "Ta", type' (basic basics.Bool)) ∷ (codes "Tb", type' (basic basics.Bool)) ∷ []
 in_byte_order = refl

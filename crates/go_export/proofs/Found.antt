@@ -18,7 +18,7 @@ use Rattle.std.proofs.lemmas.Map.Views.{All-values-insert_entry}
 use Rattle.go_typed.specs.Trees.{Package}
 use Rattle.go_types.specs.Names.{is_exported}
 use Rattle.go_export.specs.Writable.{IsShown}
-use Rattle.go_export.specs.Exports.{Export, Exports, declared_by, exported, in_order, exports_of}
+use Rattle.go_export.specs.Exports.{Export, Exports, declared_by, only_exported, sorted_by_name, exports_of}
 
 abbrev name_cmp : List ℕ → List ℕ → Ordering
 name_cmp = slice_cmp nat_cmp
@@ -60,14 +60,14 @@ found_put x k v (e ∷ es) = by_order (found_put x k v es) (name_cmp k e.0) refl
         ap (cond (bytes_eq x e.0) (Some e.1)) rest
         ∙ swapped (bytes_eq x e.0) (bytes_eq x k) (Some v) (Some e.1) (lookup (bytes_eq x) es) (not_above x k e.0 is)
 
-found_in_order : (x : List ℕ) (es : Exports) → lookup (bytes_eq x) (in_order es) ≡ lookup (bytes_eq x) es
+found_in_order : (x : List ℕ) (es : Exports) → lookup (bytes_eq x) (sorted_by_name es) ≡ lookup (bytes_eq x) es
 found_in_order x [] = refl
-found_in_order x (e ∷ es) = found_put x e.0 e.1 (in_order es) ∙ ap (cond (bytes_eq x e.0) (Some e.1)) (found_in_order x es)
+found_in_order x (e ∷ es) = found_put x e.0 e.1 (sorted_by_name es) ∙ ap (cond (bytes_eq x e.0) (Some e.1)) (found_in_order x es)
 
 pub found : (p : Package) (x : List ℕ) → lookup (bytes_eq x) (exports_of p) ≡ cond (is_exported x) (lookup (bytes_eq x) (declared_by p)) None
 unfolding exports_of
 found p x =
-    found_in_order x (exported (declared_by p))
+    found_in_order x (only_exported (declared_by p))
     ∙ lookup-filter-keys (bytes_eq x) is_exported (is_exported x) (λ k same. ap is_exported (sym (same_text x k same))) (declared_by p)
 
 -- ---- order
@@ -103,30 +103,30 @@ put_ordered k v (e ∷ es) sorted = by_order (put_ordered k v es sorted.1) (name
     by_order rest Equal is = sorted
     by_order rest Greater is = (all_below e.0 k v es sorted.0 (turned k e.0 is), rest)
 
-in_order_ascends : (es : Exports) → IsStrictlySortedBy name_cmp (keys_of (in_order es))
+in_order_ascends : (es : Exports) → IsStrictlySortedBy name_cmp (keys_of (sorted_by_name es))
 unfolding IsStrictlySortedBy
 in_order_ascends [] = tt
-in_order_ascends (e ∷ es) = put_ordered e.0 e.1 (in_order es) (in_order_ascends es)
+in_order_ascends (e ∷ es) = put_ordered e.0 e.1 (sorted_by_name es) (in_order_ascends es)
 
 pub ascends : (p : Package) → IsStrictlySortedBy name_cmp (keys_of (exports_of p))
 unfolding exports_of
-ascends p = in_order_ascends (exported (declared_by p))
+ascends p = in_order_ascends (only_exported (declared_by p))
 
 -- ---- what is shown
 
-shown_among : (es : Exports) → All IsShown (values_of es) → All IsShown (values_of (exported es))
+shown_among : (es : Exports) → All IsShown (values_of es) → All IsShown (values_of (only_exported es))
 shown_among [] h = h
 shown_among (e ∷ es) h = by_name (shown_among es (All-tail IsShown e.1 (values_of es) h)) (is_exported e.0)
   where
-    by_name : All IsShown (values_of (exported es)) → (b : Bool) → All IsShown (values_of (cond b (e ∷ exported es) (exported es)))
-    by_name rest true = All-cons IsShown e.1 (values_of (exported es)) (All-head IsShown e.1 (values_of es) h) rest
+    by_name : All IsShown (values_of (only_exported es)) → (b : Bool) → All IsShown (values_of (cond b (e ∷ only_exported es) (only_exported es)))
+    by_name rest true = All-cons IsShown e.1 (values_of (only_exported es)) (All-head IsShown e.1 (values_of es) h) rest
     by_name rest false = rest
 
-shown_in_order : (es : Exports) → All IsShown (values_of es) → All IsShown (values_of (in_order es))
+shown_in_order : (es : Exports) → All IsShown (values_of es) → All IsShown (values_of (sorted_by_name es))
 shown_in_order [] h = h
 shown_in_order (e ∷ es) h =
-    All-values-insert_entry name_cmp e.0 e.1 IsShown (in_order es) (shown_in_order es (All-tail IsShown e.1 (values_of es) h)) (All-head IsShown e.1 (values_of es) h)
+    All-values-insert_entry name_cmp e.0 e.1 IsShown (sorted_by_name es) (shown_in_order es (All-tail IsShown e.1 (values_of es) h)) (All-head IsShown e.1 (values_of es) h)
 
 pub shown : (p : Package) → All IsShown (values_of (declared_by p)) → All IsShown (values_of (exports_of p))
 unfolding exports_of
-shown p h = shown_in_order (exported (declared_by p)) (shown_among (declared_by p) h)
+shown p h = shown_in_order (only_exported (declared_by p)) (shown_among (declared_by p) h)

@@ -1,10 +1,10 @@
-pub mod Behind
+mod Behind
 pub mod Crossing
 mod Computed
 pub mod Found
 pub mod OneSummary
-pub mod Ordered
-pub mod Parts
-pub mod Values
-pub mod Shown
+mod Ordered
+mod Parts
+mod Values
+mod Shown
 pub mod Fields

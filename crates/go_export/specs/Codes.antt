@@ -14,19 +14,19 @@ use Rattle.go_export.specs.Summaries.{Summary}
 abbrev pub ExportTold : Type 0
 ExportTold = (Type' × Const) ⊎ (Type' ⊎ ((List Type' × List Type') ⊎ Type'))
 
-abbrev pub told : Export → ExportTold
-told (constant t c) = inl (t, c)
-told (variable t) = inr (inl t)
-told (function parameters results) = inr (inr (inl (parameters, results)))
-told (type' t) = inr (inr (inr t))
+abbrev pub export_sum : Export → ExportTold
+export_sum (constant t c) = inl (t, c)
+export_sum (variable t) = inr (inl t)
+export_sum (function parameters results) = inr (inr (inl (parameters, results)))
+export_sum (type' t) = inr (inr (inr t))
 
-abbrev pub meant : ExportTold → Export
-meant (inl p) = constant p.0 p.1
-meant (inr (inl t)) = variable t
-meant (inr (inr (inl p))) = function p.0 p.1
-meant (inr (inr (inr t))) = type' t
+abbrev pub export_of_sum : ExportTold → Export
+export_of_sum (inl p) = constant p.0 p.1
+export_of_sum (inr (inl t)) = variable t
+export_of_sum (inr (inr (inl p))) = function p.0 p.1
+export_of_sum (inr (inr (inr t))) = type' t
 
-pub meant_same : (e : Export) → meant (told e) ≡ e
+pub meant_same : (e : Export) → export_of_sum (export_sum e) ≡ e
 meant_same (constant t c) = refl
 meant_same (variable t) = refl
 meant_same (function parameters results) = refl
@@ -36,7 +36,7 @@ abbrev pub export_code : Coded Export
 export_code =
     code_by ExportTold
     (coded⊎ (coded× type_code constants.the_row.coded) (coded⊎ type_code (coded⊎ (coded× (coded_list type_code) (coded_list type_code)) type_code)))
-    told meant meant_same
+    export_sum export_of_sum meant_same
 
 abbrev pub summary_code : Coded Summary
 summary_code =

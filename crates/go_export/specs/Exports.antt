@@ -26,8 +26,8 @@ Exports = List (List ℕ × Export)
 abbrev pub named_constant : List ℕ × (Type' × Const) → List ℕ × Export
 named_constant c = (c.0, constant (c.1).0 (c.1).1)
 
-abbrev pub named_type : List ℕ × Type' → List ℕ × Export
-named_type t = (t.0, type' t.1)
+abbrev pub exported_type : List ℕ × Type' → List ℕ × Export
+exported_type t = (t.0, type' t.1)
 
 abbrev pub named_variable : Variable → List ℕ × Export
 named_variable v = (v.name, variable v.of)
@@ -37,21 +37,21 @@ named_function f = (f.name, function f.parameters f.results)
 
 -- all that a package declares
 abbrev pub declared_by : Package → Exports
-declared_by p = map named_constant p.constants ++ map named_type p.types ++ map named_variable p.variables ++ map named_function p.functions
+declared_by p = map named_constant p.constants ++ map exported_type p.types ++ map named_variable p.variables ++ map named_function p.functions
 
 -- the exported ones of some names: https://go.dev/ref/spec#Exported_identifiers
-abbrev pub exported : Exports → Exports
-exported es = filter (λ e. is_exported e.0) es
+abbrev pub only_exported : Exports → Exports
+only_exported es = filter (λ e. is_exported e.0) es
 
 -- in byte order of names; of several with one name the first stays
-abbrev pub in_order : Exports → Exports
-in_order [] = []
-in_order (e ∷ es) = insert_entry (slice_cmp nat_cmp) (in_order es) e.0 e.1
+abbrev pub sorted_by_name : Exports → Exports
+sorted_by_name [] = []
+sorted_by_name (e ∷ es) = insert_entry (slice_cmp nat_cmp) (sorted_by_name es) e.0 e.1
 
 -- what a package exports
 unfoldable pub exports_of : Package → Exports
-exports_of p = in_order (exported (declared_by p))
+exports_of p = sorted_by_name (only_exported (declared_by p))
 
 -- what a name stands for among some; of several the first counts
-abbrev pub look_up : List ℕ → Exports → Option Export
-look_up x es = lookup (bytes_eq x) es
+abbrev pub look_up_export : List ℕ → Exports → Option Export
+look_up_export x es = lookup (bytes_eq x) es

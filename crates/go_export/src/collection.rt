@@ -1,9 +1,8 @@
 //! What a package declares and exports, in byte order of names.
 ghost use Rattle.std.specs.Prelude.{◌≡◌, ◌++◌, OnOk, IfOk, map};
-ghost use Rattle.std.specs.List.{filter};
-ghost use Rattle.go_typed.specs.Views.{constant_of, name_of, variable_of, function_of, typed_of};
-ghost use Rattle.go_export.specs.Exports.{exported, named_constant, named_type, named_variable, named_function, in_order, exports_of};
-ghost use Rattle.go_export.specs.Views.{all_of};
+ghost use Rattle.go_typed.specs.Views.{constant_of, as_name, variable_of, as_function, typed_of};
+ghost use Rattle.go_export.specs.Exports.{only_exported, named_constant, exported_type, named_variable, named_function, sorted_by_name, exports_of};
+ghost use Rattle.go_export.specs.Views.{all_exports};
 
 use crate::export::Export;
 use go_typed::package::{Typed, TypedConstant, TypedFunction, TypedName, TypedVariable};
@@ -16,7 +15,7 @@ type Named = (String, Export);
 
 /// The constants whose names are exported come behind the others.
 fn push_constants(exports: &mut Vec<Named>, constants: &[TypedConstant]) -> Result<(), AllocError>
-    ensures { OnOk result (all_of exports.new.items ≡ all_of exports.old.items ++ exported (map named_constant (map constant_of constants.now))) }
+    ensures { OnOk result (all_exports exports.new.items ≡ all_exports exports.old.items ++ only_exported (map named_constant (map constant_of constants.now))) }
 {
     for constant in constants {
         if is_exported(&constant.name) {
@@ -28,7 +27,7 @@ fn push_constants(exports: &mut Vec<Named>, constants: &[TypedConstant]) -> Resu
 
 /// The types whose names are exported come behind the others.
 fn push_types(exports: &mut Vec<Named>, types: &[TypedName]) -> Result<(), AllocError>
-    ensures { OnOk result (all_of exports.new.items ≡ all_of exports.old.items ++ exported (map named_type (map name_of types.now))) }
+    ensures { OnOk result (all_exports exports.new.items ≡ all_exports exports.old.items ++ only_exported (map exported_type (map as_name types.now))) }
 {
     for named in types {
         if is_exported(&named.name) {
@@ -40,7 +39,7 @@ fn push_types(exports: &mut Vec<Named>, types: &[TypedName]) -> Result<(), Alloc
 
 /// The variables whose names are exported come behind the others.
 fn push_variables(exports: &mut Vec<Named>, variables: &[TypedVariable]) -> Result<(), AllocError>
-    ensures { OnOk result (all_of exports.new.items ≡ all_of exports.old.items ++ exported (map named_variable (map variable_of variables.now))) }
+    ensures { OnOk result (all_exports exports.new.items ≡ all_exports exports.old.items ++ only_exported (map named_variable (map variable_of variables.now))) }
 {
     for variable in variables {
         if is_exported(&variable.name) {
@@ -56,7 +55,7 @@ fn push_functions(
     exports: &mut Vec<Named>,
     functions: &[TypedFunction],
 ) -> Result<(), AllocError>
-    ensures { OnOk result (all_of exports.new.items ≡ all_of exports.old.items ++ exported (map named_function (map function_of functions.now))) }
+    ensures { OnOk result (all_exports exports.new.items ≡ all_exports exports.old.items ++ only_exported (map named_function (map as_function functions.now))) }
 {
     for function in functions {
         if is_exported(&function.name) {
@@ -71,7 +70,7 @@ fn push_functions(
 
 /// Names with what they export, in byte order; of several with one name the first stays.
 fn ordered(alloc: Global, exports: Vec<Named>) -> Result<BTreeMap<String, Export>, AllocError>
-    ensures { IfOk result (λ all. all_of all.entries ≡ in_order (all_of exports.items)) }
+    ensures { IfOk result (λ all. all_exports all.entries ≡ sorted_by_name (all_exports exports.items)) }
 {
     let mut rest = exports;
     let mut all = BTreeMap::new(alloc);
@@ -86,7 +85,7 @@ pub(crate) fn exports_of(
     alloc: Global,
     typed: &Typed,
 ) -> Result<BTreeMap<String, Export>, AllocError>
-    ensures { IfOk result (λ all. all_of all.entries ≡ exports_of (typed_of typed.now)) }
+    ensures { IfOk result (λ all. all_exports all.entries ≡ exports_of (typed_of typed.now)) }
 {
     let mut exports = Vec::new(alloc);
     push_constants(&mut exports, &typed.constants)?;

@@ -1,8 +1,8 @@
 //! What a name of a package exports.
 ghost use Rattle.std.specs.Prelude.{◌≡◌, IfOk, map};
-ghost use Rattle.go_types.specs.Views.{type_of};
-ghost use Rattle.go_typed.specs.Views.{constant_of, name_of, variable_of, function_of};
-ghost use Rattle.go_export.specs.Exports.{named_constant, named_type, named_variable, named_function};
+ghost use Rattle.go_types.specs.Views.{go_type};
+ghost use Rattle.go_typed.specs.Views.{constant_of, as_name, variable_of, as_function};
+ghost use Rattle.go_export.specs.Exports.{named_constant, exported_type, named_variable, named_function};
 ghost use Rattle.go_export.specs.Views.{export_of};
 
 use go_const::constant::Const;
@@ -28,7 +28,7 @@ pub enum Export {
 
 /// Copies of types, in their order. An `Err` only where memory ran out.
 pub fn copy_types(alloc: Global, types: &[GoType]) -> Result<Vec<GoType>, AllocError>
-    ensures { IfOk result (λ copies. map type_of copies.items ≡ map type_of types.now) }
+    ensures { IfOk result (λ copies. map go_type copies.items ≡ map go_type types.now) }
 {
     let mut copies = Vec::new(alloc);
     for of in types {
@@ -49,7 +49,7 @@ impl Export {
 
     /// What the name of a type exports. An `Err` only where memory ran out.
     pub(crate) fn of_type(named: &TypedName) -> Result<Export, AllocError>
-        ensures { IfOk result (λ e. export_of e ≡ (named_type (name_of named.now)).1) }
+        ensures { IfOk result (λ e. export_of e ≡ (exported_type (as_name named.now)).1) }
     {
         Ok(Export::Type(named.of.copy()?))
     }
@@ -63,7 +63,7 @@ impl Export {
 
     /// What the name of a function exports. An `Err` only where memory ran out.
     pub(crate) fn of_function(alloc: Global, function: &TypedFunction) -> Result<Export, AllocError>
-        ensures { IfOk result (λ e. export_of e ≡ (named_function (function_of function.now)).1) }
+        ensures { IfOk result (λ e. export_of e ≡ (named_function (as_function function.now)).1) }
     {
         let parameters = copy_types(alloc, &function.parameters)?;
         let results = copy_types(alloc, &function.results)?;

@@ -5,9 +5,9 @@ ghost use Rattle.std.specs.Map.{values_of};
 ghost use Rattle.std.specs.Option.{option_map};
 ghost use Rattle.go_typed.specs.Views.{typed_of};
 ghost use Rattle.go_export.specs.declared.error.SummaryError.TheVariants.{Unshown};
-ghost use Rattle.go_export.specs.Exports.{exports_of, look_up};
+ghost use Rattle.go_export.specs.Exports.{exports_of, look_up_export};
 ghost use Rattle.go_export.specs.Summaries.{summary_of, summary_text, summary_digest};
-ghost use Rattle.go_export.specs.Views.{all_of, export_of};
+ghost use Rattle.go_export.specs.Views.{all_exports, export_of};
 ghost use Rattle.go_export.specs.Writable.{IsShown, IsWritten};
 
 use crate::collection::exports_of;
@@ -45,16 +45,16 @@ impl Model for Summary {
 
     ghost coded = { summary_code };
 
-    ghost use Rattle.go_export.specs.Views.{shown};
+    ghost use Rattle.go_export.specs.Views.{summary_from};
 
-    ghost view = { λ s. shown s.edition (string_bytes s.path) (string_bytes s.name) s.named.entries };
+    ghost view = { λ s. summary_from s.edition (string_bytes s.path) (string_bytes s.name) s.named.entries };
 
     ghost use Rattle.sha2.specs.Sha256.{sha256};
     ghost use Rattle.go_export.specs.Writable as writable;
 
-    ghost invariant = { λ s. (s.text.items ≡ summaries.summary_text (shown s.edition (string_bytes s.path) (string_bytes s.name) s.named.entries))
+    ghost invariant = { λ s. (s.text.items ≡ summaries.summary_text (summary_from s.edition (string_bytes s.path) (string_bytes s.name) s.named.entries))
         × (s.digest ≡ sha256 s.text.items)
-        × writable.IsWritten (shown s.edition (string_bytes s.path) (string_bytes s.name) s.named.entries) };
+        × writable.IsWritten (summary_from s.edition (string_bytes s.path) (string_bytes s.name) s.named.entries) };
 }
 
 impl Summary {
@@ -117,14 +117,14 @@ impl Summary {
     /// What a name exports, if the package exports that name.
     /// [Qualified identifiers](https://go.dev/ref/spec#Qualified_identifiers)
     pub fn find(&self, name: &str) -> Option<&Export>
-        ensures { option_map (λ e. export_of e.now) result ≡ look_up name.now self.now.exports }
+        ensures { option_map (λ e. export_of e.now) result ≡ look_up_export name.now self.now.exports }
     {
         self.named.get(name)
     }
 
     /// All that the package exports, by name.
     pub fn exports(&self) -> &BTreeMap<String, Export>
-        ensures { all_of result.now.entries ≡ self.now.exports }
+        ensures { all_exports result.now.entries ≡ self.now.exports }
     {
         &self.named
     }

@@ -3,10 +3,10 @@ ghost use Rattle.std.specs.Prelude.{◌≡◌, ◌++◌, OnOk, IfOk, map};
 ghost use Rattle.std.specs.List.{flat_map};
 ghost use Rattle.go_export.specs.Fields.{field};
 ghost use Rattle.go_types.specs.Texts.{type_text};
-ghost use Rattle.go_types.specs.Views.{type_of};
+ghost use Rattle.go_types.specs.Views.{go_type};
 ghost use Rattle.go_export.specs.Summaries.{value_text, types_text, export_text, named_text, summary_text};
 ghost use Rattle.go_text.specs.declared.edition.Edition.{Edition};
-ghost use Rattle.go_export.specs.Views.{export_of, all_of, shown};
+ghost use Rattle.go_export.specs.Views.{export_of, all_exports, summary_from};
 
 use crate::export::Export;
 use crate::field::{push_field, push_number};
@@ -18,14 +18,14 @@ use std::collections::BTreeMap;
 
 /// A type comes behind a text, as a field.
 fn push_type(alloc: Global, text: &mut Vec<u8>, of: &GoType) -> Result<(), AllocError>
-    ensures { OnOk result (text.new.items ≡ text.old.items ++ field (type_text (type_of of.now))) }
+    ensures { OnOk result (text.new.items ≡ text.old.items ++ field (type_text (go_type of.now))) }
 {
     push_field(text, &type_text(alloc, of)?)
 }
 
 /// Types come behind a text: how many there are, and each.
 fn push_types(alloc: Global, text: &mut Vec<u8>, types: &[GoType]) -> Result<(), AllocError>
-    ensures { OnOk result (text.new.items ≡ text.old.items ++ types_text (map type_of types.now)) }
+    ensures { OnOk result (text.new.items ≡ text.old.items ++ types_text (map go_type types.now)) }
 {
     push_number(text, types.len() as u64)?;
     for of in types {
@@ -78,7 +78,7 @@ fn push_exports(
     text: &mut Vec<u8>,
     exports: &BTreeMap<String, Export>,
 ) -> Result<(), AllocError>
-    ensures { OnOk result (text.new.items ≡ text.old.items ++ flat_map named_text (all_of exports.now.entries)) }
+    ensures { OnOk result (text.new.items ≡ text.old.items ++ flat_map named_text (all_exports exports.now.entries)) }
 {
     for (name, export) in exports {
         push_field(text, name.as_bytes())?;
@@ -95,7 +95,7 @@ pub(crate) fn text_of(
     name: &str,
     exports: &BTreeMap<String, Export>,
 ) -> Result<Vec<u8>, AllocError>
-    ensures { (edition : Edition) → IfOk result (λ text. text.items ≡ summary_text (shown edition path.now name.now exports.now.entries)) }
+    ensures { (edition : Edition) → IfOk result (λ text. text.items ≡ summary_text (summary_from edition path.now name.now exports.now.entries)) }
 {
     let mut text = Vec::new(alloc);
     push_field(&mut text, b"goset summary")?;

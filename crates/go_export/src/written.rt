@@ -4,8 +4,8 @@ ghost use Rattle.std.specs.Bool.{Decides, OnTrue};
 ghost use Rattle.std.specs.List.{All};
 ghost use Rattle.std.specs.Map.{values_of};
 ghost use Rattle.go_types.specs.Texts.{IsWritable};
-ghost use Rattle.go_types.specs.Views.{type_of};
-ghost use Rattle.go_export.specs.Views.{all_of, export_of};
+ghost use Rattle.go_types.specs.Views.{go_type};
+ghost use Rattle.go_export.specs.Views.{all_exports, export_of};
 ghost use Rattle.go_export.specs.Writable.{kind_of, value_kind, IsSmall, HasSmall, IsValue, IsShown};
 
 use crate::export::Export;
@@ -49,7 +49,7 @@ fn is_small(value: &Const)
 
 /// Whether a value is one of a type.
 fn is_value(of: &GoType, value: &Const) -> bool
-    ensures { Decides result (IsValue (type_of of.now) value.now) }
+    ensures { Decides result (IsValue (go_type of.now) value.now) }
 {
     match underlying(of) {
         GoType::Basic(basic) => value_kind(*basic) == kind_of(value),
@@ -58,7 +58,7 @@ fn is_value(of: &GoType, value: &Const) -> bool
 }
 
 fn are_writable(types: &[GoType]) -> bool
-    ensures { Decides result (All IsWritable (map type_of types.now)) }
+    ensures { Decides result (All IsWritable (map go_type types.now)) }
 {
     for of in types {
         if !is_writable(of) {
@@ -86,8 +86,8 @@ fn is_shown(export: &Export) -> bool
 
 /// Whether all that a package exports can be shown.
 pub(crate) fn are_shown(exports: &BTreeMap<String, Export>) -> bool
-    ensures shown { Decides result (All IsShown (values_of (all_of exports.now.entries))) }
-    ensures small { OnTrue result (All HasSmall (values_of (all_of exports.now.entries))) }
+    ensures shown { Decides result (All IsShown (values_of (all_exports exports.now.entries))) }
+    ensures small { OnTrue result (All HasSmall (values_of (all_exports exports.now.entries))) }
 {
     for (_, export) in exports {
         if !is_shown(export) {

@@ -8,7 +8,7 @@ use Rattle.go_scope.proofs.Indexes.{Differing, differing_more, differing_not}
 use Rattle.go_types.specs.Types.{Type'}
 use Rattle.go_typed.specs.Trees.{Expr}
 use Rattle.go_expr.specs.Known.{Verdict}
-use Rattle.go_expr.specs.Rules.{ElementList, differ, element_part, keys, numbered}
+use Rattle.go_expr.specs.Rules.{ElementList, are_distinct, element_part, keys, numbered}
 
 -- what elements are for, from a number on
 abbrev pub parts_from : (ℕ → Option (List ℕ) → Option (ℕ × Type')) → ℕ → ElementList → List (Verdict (ℕ × Expr))
@@ -31,7 +31,7 @@ keys_more names left rest all (Some k, v) before is new = elim (cases_Bool (is_s
   | inr f ↦ differing_more names left rest all k before is f
 ]
 
-pub keys_not : (names left rest all : List (List ℕ)) (e : Option (List ℕ) × Expr) → Differing names left all → left ≡ keys (e ∷ []) ++ rest → is_key_in names e ≡ true → false ≡ differ all
+pub keys_not : (names left rest all : List (List ℕ)) (e : Option (List ℕ) × Expr) → Differing names left all → left ≡ keys (e ∷ []) ++ rest → is_key_in names e ≡ true → false ≡ are_distinct all
 keys_not names left rest all (None, v) before is known = cc
 keys_not names left rest all (Some k, v) before is known = elim (cases_Bool (is_some (position (bytes_eq k) names))) [
   | inl t ↦ differing_not names left rest all k before is t

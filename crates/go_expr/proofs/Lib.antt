@@ -1,11 +1,11 @@
 mod ComputedSlices
-pub mod Digits
-pub mod Elements
+mod Digits
+mod Elements
 pub mod Fineness
 pub mod Gathering
 pub mod Lists
 pub mod Lookups
-pub mod Named
+mod Named
 pub mod Nodes
-pub mod Numbers
-pub mod SliceFunctions
+mod Numbers
+mod SliceFunctions

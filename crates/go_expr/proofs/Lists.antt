@@ -7,8 +7,8 @@ use Rattle.go_text.specs.declared.fault.FaultKind.{FaultKind}
 use Rattle.std.specs.Prelude.{option_copied, option_map}
 use Rattle.go_expr.specs.declared.error.ExprError.{ExprError}
 use Rattle.go_expr.specs.declared.error.ExprError.TheVariants.{Faulty, Memory}
-use Rattle.go_expr.specs.Seen.{Fails}
-use Rattle.go_expr.specs.Verdicts.{joined}
+use Rattle.go_expr.specs.Views.{Fails}
+use Rattle.go_expr.specs.Verdicts.{chained}
 
 -- those that are left begin with the next
 pub left : {A : Type 0} (xs : List A) (i : ℕ) (x : A) → i < length xs → x ≡ get_or xs i x → drop i xs ≡ x ∷ drop (i + 1) xs
@@ -18,23 +18,23 @@ left xs i x h is = drop-cons xs i x h ∙ ap (λ y. y ∷ drop (suc i) xs) (sym 
 pub fault_later : (this own rest all : List (Place × FaultKind)) → this ≡ all → this ≡ own ++ rest → own ≡ [] → rest ≡ all
 fault_later this own rest all same begins none = sym (ap (λ l. l ++ rest) none) ∙ sym begins ∙ same
 
-joined_thrice : {A : Type 0} (xs ys zs : Option (List A)) → joined xs (joined ys zs) ≡ joined (joined xs ys) zs
+joined_thrice : {A : Type 0} (xs ys zs : Option (List A)) → chained xs (chained ys zs) ≡ chained (chained xs ys) zs
 joined_thrice None ys zs = refl
 joined_thrice (Some xs) None zs = refl
 joined_thrice (Some xs) (Some ys) None = refl
 joined_thrice (Some xs) (Some ys) (Some zs) = ap Some (sym (append_assoc xs ys zs))
 
 -- what is known with the next
-pub known_later : {A : Type 0} (all done more own this rest : Option (List A)) → all ≡ joined done this → this ≡ joined own rest → more ≡ joined done own → all ≡ joined more rest
-known_later all done more own this rest same begins push = same ∙ ap (joined done) begins ∙ joined_thrice done own rest ∙ ap (λ d. joined d rest) (sym push)
+pub known_later : {A : Type 0} (all done more own this rest : Option (List A)) → all ≡ chained done this → this ≡ chained own rest → more ≡ chained done own → all ≡ chained more rest
+known_later all done more own this rest same begins push = same ∙ ap (chained done) begins ∙ joined_thrice done own rest ∙ ap (λ d. chained d rest) (sym push)
 
-none_joined : {A : Type 0} (done : Option (List A)) → joined done (Some []) ≡ done
+none_joined : {A : Type 0} (done : Option (List A)) → chained done (Some []) ≡ done
 none_joined None = refl
 none_joined (Some done) = ap Some (append-nil done)
 
 -- what is known at the end of a loop
-pub joined_done : {A X : Type 0} (xs : List X) (i : ℕ) (done all : Option (List A)) (known : List X → Option (List A)) → length xs ≤ i → known [] ≡ Some [] → all ≡ joined done (known (drop i xs)) → all ≡ done
-joined_done xs i done all known end none is = is ∙ ap (λ l. joined done (known l)) (drop_all i xs end) ∙ ap (joined done) none ∙ none_joined done
+pub joined_done : {A X : Type 0} (xs : List X) (i : ℕ) (done all : Option (List A)) (known : List X → Option (List A)) → length xs ≤ i → known [] ≡ Some [] → all ≡ chained done (known (drop i xs)) → all ≡ done
+joined_done xs i done all known end none is = is ∙ ap (λ l. chained done (known l)) (drop_all i xs end) ∙ ap (chained done) none ∙ none_joined done
 
 -- what is wrong first with the first part of a node
 pub fails_front : (e : ExprError) (fs gs : List (Place × FaultKind)) → Fails e fs → Fails e (fs ++ gs)

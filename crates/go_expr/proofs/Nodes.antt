@@ -2,14 +2,14 @@
 use Rattle.std.proofs.Common.{◌≡◌, Bool, true, false, Option, Result, Err, List, [], ◌∷◌, ◌++◌, Box, Vec, Global, sym, ap, ◌∙◌, subst, refl}
 use Rattle.go_text.specs.declared.place.Place.{Place}
 use Rattle.go_text.specs.declared.fault.FaultKind.{FaultKind}
-use Rattle.go_ast.specs.Trees.{TypeExpr, Expr, name, selector, Exprs, some_exprs, call, composite_lit, Elements}
+use Rattle.go_ast.specs.Trees.{TypeExpr, Expression, name, selector, ExpressionList, some_exprs, call, composite_lit, Elements}
 use Rattle.std.specs.Prelude.{map, option_map, string_bytes, if◌then◌else◌}
 use Rattle.go_types.specs.Types as types
-use Rattle.go_types.specs.Views.{type_of, fields_in}
+use Rattle.go_types.specs.Views.{go_type, fields_in}
 use Rattle.go_types.specs.declared.types.Field.{Field}
-use Rattle.go_expr.specs.Rules.{fine, valued, type_due, made, unmade, unprinted, called, packed, listed}
+use Rattle.go_expr.specs.Rules.{fine, valued, type_due, make_verdict, unmade, unprinted, called, pack_field_list, listed}
 use Rattle.go_expr.specs.declared.error.ExprError.{ExprError}
-use Rattle.go_ast.specs.declared.expression.Expr.{Expr as Expression}
+use Rattle.go_ast.specs.declared.expression.Expr.{Expr as ExprNode}
 use Rattle.go_ast.specs.declared.expression.ExprKind.{ExprKind, CompositeLit}
 use Rattle.go_ast.specs.declared.expression.TypeExpr.{TypeExpr as TypeNode}
 use Rattle.go_ast.specs.declared.expression.Element.{Element as ElementNode}
@@ -19,8 +19,8 @@ use Rattle.go_expr.proofs.Lists.{fails_front}
 use Rattle.go_expr.specs.declared.known.Known.{Known as Found}
 use Rattle.go_expr.specs.Known.{Known, Verdict, Scope}
 use Rattle.go_typed.specs.Trees.{Expr as Typed}
-use Rattle.go_expr.specs.Verdicts.{asked, asked_both, broken, callee, is_make, is_name, call_verdict, call_faults, verdict, made_verdict, operands, type_verdict, part_broken, package_broken, qualifier_broken, is_package_name, faults, made_faults, operands_faults, elements_faults, type_faults}
-use Rattle.go_expr.specs.Seen.{known_of, elements_in, field_of, literal_verdict, Fails, Answers, Behind}
+use Rattle.go_expr.specs.Verdicts.{asked, asked_both, broken, callee, is_make, is_name, call_verdict, call_faults, verdict, made_verdict, operand_list, type_verdict, part_broken, package_broken, qualifier_broken, is_plain_name, faults, made_faults, operands_faults, elements_faults, type_faults}
+use Rattle.go_expr.specs.Views.{known_of, elements_in, typed_field, literal_verdict, Fails, Answers, AnswersBehindParts}
 
 -- where nothing is found before
 pub later : {X Y : Type 0} (view : X → Y) (r : Result (Option X) ExprError) (xs ys : List (Place × FaultKind)) (known : Option Y) → xs ≡ [] → Answers view r ys known → Answers view r (xs ++ ys) known
@@ -35,101 +35,101 @@ of_part {X} {Y} {A} view r p q rule xs part o none is same h =
     (later view r xs (broken q (asked rule o)) (fine (asked rule o)) none h))
 
 -- a call whose callee has no fault
-pub call_asked : {X : Type 0} (view : X → Known) (r : Result (Option X) ExprError) (s : Scope) (p : Place) (f : Expr) (es : Exprs) (k : Option Known) → faults s f ++ part_broken f (callee (verdict s f)) ≡ [] → fine (callee (verdict s f)) ≡ k → Answers view r (call_faults s k es ++ broken p (call_verdict s k es)) (fine (call_verdict s k es)) → Answers view r (faults s (call p f es)) (fine (verdict s (call p f es)))
+pub call_asked : {X : Type 0} (view : X → Known) (r : Result (Option X) ExprError) (s : Scope) (p : Place) (f : Expression) (es : ExpressionList) (k : Option Known) → faults s f ++ part_broken f (callee (verdict s f)) ≡ [] → fine (callee (verdict s f)) ≡ k → Answers view r (call_faults s k es ++ broken p (call_verdict s k es)) (fine (call_verdict s k es)) → Answers view r (faults s (call p f es)) (fine (verdict s (call p f es)))
 call_asked view r s p f es k none is h =
     subst (λ (o : Option Known). Answers view r (faults s f ++ part_broken f (callee (verdict s f)) ++ call_faults s o es ++ broken p (call_verdict s o es)) (fine (call_verdict s o es))) (sym is)
     (subst (λ (l : List (Place × FaultKind)). Answers view r (l ++ call_faults s k es ++ broken p (call_verdict s k es)) (fine (call_verdict s k es))) (sym none) h)
 
 -- a call of what takes a type in front of its operands, and of what doesn't
-abbrev call_by : Bool → Scope → Option Known → Exprs → Verdict Known
-call_by b s o es = if b then valued (made_verdict s es) else asked_both called o (operands s es)
+abbrev call_by : Bool → Scope → Option Known → ExpressionList → Verdict Known
+call_by b s o es = if b then valued (made_verdict s es) else asked_both called o (operand_list s es)
 
-abbrev faults_by : Bool → Scope → Exprs → List (Place × FaultKind)
+abbrev faults_by : Bool → Scope → ExpressionList → List (Place × FaultKind)
 faults_by b s es = if b then made_faults s es else operands_faults s es
 
-pub make_called : {X : Type 0} (view : X → Known) (r : Result (Option X) ExprError) (s : Scope) (p : Place) (o : Option Known) (es : Exprs) → is_make o ≡ true →
-    Behind view r (made_faults s es) p (valued (made_verdict s es)) → Behind view r (call_faults s o es) p (call_verdict s o es)
-make_called view r s p o es make h = subst (λ (b : Bool). Behind view r (faults_by b s es) p (call_by b s o es)) (sym make) h
+pub make_called : {X : Type 0} (view : X → Known) (r : Result (Option X) ExprError) (s : Scope) (p : Place) (o : Option Known) (es : ExpressionList) → is_make o ≡ true →
+    AnswersBehindParts view r (made_faults s es) p (valued (made_verdict s es)) → AnswersBehindParts view r (call_faults s o es) p (call_verdict s o es)
+make_called view r s p o es make h = subst (λ (b : Bool). AnswersBehindParts view r (faults_by b s es) p (call_by b s o es)) (sym make) h
 
-pub other_called : {X : Type 0} (view : X → Known) (r : Result (Option X) ExprError) (s : Scope) (p : Place) (o : Option Known) (es : Exprs) → is_make o ≡ false →
-    Behind view r (operands_faults s es) p (asked_both called o (operands s es)) → Behind view r (call_faults s o es) p (call_verdict s o es)
-other_called view r s p o es other h = subst (λ (b : Bool). Behind view r (faults_by b s es) p (call_by b s o es)) (sym other) h
+pub other_called : {X : Type 0} (view : X → Known) (r : Result (Option X) ExprError) (s : Scope) (p : Place) (o : Option Known) (es : ExpressionList) → is_make o ≡ false →
+    AnswersBehindParts view r (operands_faults s es) p (asked_both called o (operand_list s es)) → AnswersBehindParts view r (call_faults s o es) p (call_verdict s o es)
+other_called view r s p o es other h = subst (λ (b : Bool). AnswersBehindParts view r (faults_by b s es) p (call_by b s o es)) (sym other) h
 
 -- the type that is made, and what else may stand there
-abbrev pub due_of_name : Scope → Expr → Verdict types.Type'
+abbrev pub due_of_name : Scope → Expression → Verdict types.Type'
 due_of_name s e = asked type_due (fine (verdict s e))
 
-abbrev pub other_than_name : Scope → Expr → Verdict Known
+abbrev pub other_than_name : Scope → Expression → Verdict Known
 other_than_name s e = asked unprinted (fine (verdict s e))
 
 -- what is made, by whether the first operand may be a type
-abbrev made_if : Bool → Scope → Expr → Exprs → Verdict Typed
-made_if b s e es = if b then asked_both made (fine (due_of_name s e)) (operands s es) else asked_both unmade (fine (other_than_name s e)) (operands s es)
+abbrev made_if : Bool → Scope → Expression → ExpressionList → Verdict Typed
+made_if b s e es = if b then asked_both make_verdict (fine (due_of_name s e)) (operand_list s es) else asked_both unmade (fine (other_than_name s e)) (operand_list s es)
 
 -- what isn't the name of a type has no package before a dot
-no_package : (s : Scope) (e : Expr) → is_package_name e ≡ false → package_broken s e ≡ []
+no_package : (s : Scope) (e : Expression) → is_plain_name e ≡ false → package_broken s e ≡ []
 no_package s (name p x) h = cc
 no_package s e h = refl
 
-no_qualifier : (s : Scope) (e : Expr) → is_name e ≡ false → qualifier_broken s e ≡ []
+no_qualifier : (s : Scope) (e : Expression) → is_name e ≡ false → qualifier_broken s e ≡ []
 no_qualifier s (selector p e x) h = no_package s e h
 no_qualifier s e h = refl
 
-abbrev due_if : Bool → Scope → Expr → List (Place × FaultKind)
+abbrev due_if : Bool → Scope → Expression → List (Place × FaultKind)
 due_if b s e = if b then part_broken e (due_of_name s e) else part_broken e (other_than_name s e)
 
-by_name : {X : Type 0} (view : X → Known) (r : Result (Option X) ExprError) (s : Scope) (p : Place) (e : Expr) (es : Exprs) → is_name e ≡ true →
-    Behind view r (qualifier_broken s e ++ faults s e ++ part_broken e (due_of_name s e) ++ operands_faults s es) p (valued (asked_both made (fine (due_of_name s e)) (operands s es))) →
-    Behind view r (made_faults s (some_exprs e es)) p (valued (made_verdict s (some_exprs e es)))
+by_name : {X : Type 0} (view : X → Known) (r : Result (Option X) ExprError) (s : Scope) (p : Place) (e : Expression) (es : ExpressionList) → is_name e ≡ true →
+    AnswersBehindParts view r (qualifier_broken s e ++ faults s e ++ part_broken e (due_of_name s e) ++ operands_faults s es) p (valued (asked_both make_verdict (fine (due_of_name s e)) (operand_list s es))) →
+    AnswersBehindParts view r (made_faults s (some_exprs e es)) p (valued (made_verdict s (some_exprs e es)))
 by_name view r s p e es is h =
-    subst (λ (b : Bool). Behind view r (qualifier_broken s e ++ faults s e ++ due_if b s e ++ operands_faults s es) p (valued (made_if b s e es))) (sym is) h
+    subst (λ (b : Bool). AnswersBehindParts view r (qualifier_broken s e ++ faults s e ++ due_if b s e ++ operands_faults s es) p (valued (made_if b s e es))) (sym is) h
 
-by_other : {X : Type 0} (view : X → Known) (r : Result (Option X) ExprError) (s : Scope) (p : Place) (e : Expr) (es : Exprs) → is_name e ≡ false →
-    Behind view r (faults s e ++ part_broken e (other_than_name s e) ++ operands_faults s es) p (valued (asked_both unmade (fine (other_than_name s e)) (operands s es))) →
-    Behind view r (made_faults s (some_exprs e es)) p (valued (made_verdict s (some_exprs e es)))
+by_other : {X : Type 0} (view : X → Known) (r : Result (Option X) ExprError) (s : Scope) (p : Place) (e : Expression) (es : ExpressionList) → is_name e ≡ false →
+    AnswersBehindParts view r (faults s e ++ part_broken e (other_than_name s e) ++ operands_faults s es) p (valued (asked_both unmade (fine (other_than_name s e)) (operand_list s es))) →
+    AnswersBehindParts view r (made_faults s (some_exprs e es)) p (valued (made_verdict s (some_exprs e es)))
 by_other view r s p e es other h =
-    subst (λ (l : List (Place × FaultKind)). Behind view r (l ++ faults s e ++ due_if (is_name e) s e ++ operands_faults s es) p (valued (made_if (is_name e) s e es))) (sym (no_qualifier s e other))
-    (subst (λ (b : Bool). Behind view r (faults s e ++ due_if b s e ++ operands_faults s es) p (valued (made_if b s e es))) (sym other) h)
+    subst (λ (l : List (Place × FaultKind)). AnswersBehindParts view r (l ++ faults s e ++ due_if (is_name e) s e ++ operands_faults s es) p (valued (made_if (is_name e) s e es))) (sym (no_qualifier s e other))
+    (subst (λ (b : Bool). AnswersBehindParts view r (faults s e ++ due_if b s e ++ operands_faults s es) p (valued (made_if b s e es))) (sym other) h)
 
 -- a name whose type has no fault
-pub made_named : {X : Type 0} (view : X → Known) (r : Result (Option X) ExprError) (s : Scope) (p : Place) (e : Expr) (es : Exprs) (k : Option types.Type') → is_name e ≡ true → qualifier_broken s e ≡ [] →
-    faults s e ++ part_broken e (due_of_name s e) ≡ [] → fine (due_of_name s e) ≡ k → Behind view r (operands_faults s es) p (valued (asked_both made k (operands s es))) →
-    Behind view r (made_faults s (some_exprs e es)) p (valued (made_verdict s (some_exprs e es)))
+pub made_named : {X : Type 0} (view : X → Known) (r : Result (Option X) ExprError) (s : Scope) (p : Place) (e : Expression) (es : ExpressionList) (k : Option types.Type') → is_name e ≡ true → qualifier_broken s e ≡ [] →
+    faults s e ++ part_broken e (due_of_name s e) ≡ [] → fine (due_of_name s e) ≡ k → AnswersBehindParts view r (operands_faults s es) p (valued (asked_both make_verdict k (operand_list s es))) →
+    AnswersBehindParts view r (made_faults s (some_exprs e es)) p (valued (made_verdict s (some_exprs e es)))
 made_named view r s p e es k is before none gives h =
     let own = faults s e ++ part_broken e (due_of_name s e) in
     by_name view r s p e es is
-    (subst (λ (l : List (Place × FaultKind)). Behind view r (l ++ faults s e ++ part_broken e (due_of_name s e) ++ operands_faults s es) p (valued (asked_both made (fine (due_of_name s e)) (operands s es)))) (sym before)
-    (subst (λ (o : Option types.Type'). Behind view r (own ++ operands_faults s es) p (valued (asked_both made o (operands s es)))) (sym gives)
-    (subst (λ (l : List (Place × FaultKind)). Behind view r (l ++ operands_faults s es) p (valued (asked_both made k (operands s es)))) (sym none) h)))
+    (subst (λ (l : List (Place × FaultKind)). AnswersBehindParts view r (l ++ faults s e ++ part_broken e (due_of_name s e) ++ operands_faults s es) p (valued (asked_both make_verdict (fine (due_of_name s e)) (operand_list s es)))) (sym before)
+    (subst (λ (o : Option types.Type'). AnswersBehindParts view r (own ++ operands_faults s es) p (valued (asked_both make_verdict o (operand_list s es)))) (sym gives)
+    (subst (λ (l : List (Place × FaultKind)). AnswersBehindParts view r (l ++ operands_faults s es) p (valued (asked_both make_verdict k (operand_list s es)))) (sym none) h)))
 
 -- no package before its dot
-pub qualifier_fails : {X : Type 0} (view : X → Known) (error : ExprError) (s : Scope) (p : Place) (e : Expr) (es : Exprs) → is_name e ≡ true → Fails error (qualifier_broken s e) →
-    Behind view (Err error) (made_faults s (some_exprs e es)) p (valued (made_verdict s (some_exprs e es)))
+pub qualifier_fails : {X : Type 0} (view : X → Known) (error : ExprError) (s : Scope) (p : Place) (e : Expression) (es : ExpressionList) → is_name e ≡ true → Fails error (qualifier_broken s e) →
+    AnswersBehindParts view (Err error) (made_faults s (some_exprs e es)) p (valued (made_verdict s (some_exprs e es)))
 qualifier_fails view error s p e es is h =
     let before = qualifier_broken s e in
     let due = part_broken e (due_of_name s e) in
     by_name view (Err error) s p e es is (fails_front error (before ++ faults s e ++ due ++ operands_faults s es) _ (fails_front error (before ++ faults s e ++ due) (operands_faults s es)
     (fails_front error (before ++ faults s e) due (fails_front error before (faults s e) h))))
 
-pub name_fails : {X : Type 0} (view : X → Known) (error : ExprError) (s : Scope) (p : Place) (e : Expr) (es : Exprs) → is_name e ≡ true → qualifier_broken s e ≡ [] →
-    Fails error (faults s e ++ part_broken e (due_of_name s e)) → Behind view (Err error) (made_faults s (some_exprs e es)) p (valued (made_verdict s (some_exprs e es)))
+pub name_fails : {X : Type 0} (view : X → Known) (error : ExprError) (s : Scope) (p : Place) (e : Expression) (es : ExpressionList) → is_name e ≡ true → qualifier_broken s e ≡ [] →
+    Fails error (faults s e ++ part_broken e (due_of_name s e)) → AnswersBehindParts view (Err error) (made_faults s (some_exprs e es)) p (valued (made_verdict s (some_exprs e es)))
 name_fails view error s p e es is before h =
     let own = faults s e ++ part_broken e (due_of_name s e) in
     by_name view (Err error) s p e es is
-    (subst (λ (l : List (Place × FaultKind)). Behind view (Err error) (l ++ faults s e ++ part_broken e (due_of_name s e) ++ operands_faults s es) p (valued (asked_both made (fine (due_of_name s e)) (operands s es)))) (sym before)
+    (subst (λ (l : List (Place × FaultKind)). AnswersBehindParts view (Err error) (l ++ faults s e ++ part_broken e (due_of_name s e) ++ operands_faults s es) p (valued (asked_both make_verdict (fine (due_of_name s e)) (operand_list s es)))) (sym before)
     (fails_front error (own ++ operands_faults s es) _ (fails_front error own (operands_faults s es) h)))
 
 -- what can't be a type, without fault
-pub made_unnamed : {X : Type 0} (view : X → Known) (r : Result (Option X) ExprError) (s : Scope) (p : Place) (e : Expr) (es : Exprs) (k : Option Known) → is_name e ≡ false →
-    faults s e ++ part_broken e (other_than_name s e) ≡ [] → fine (other_than_name s e) ≡ k → Behind view r (operands_faults s es) p (valued (asked_both unmade k (operands s es))) →
-    Behind view r (made_faults s (some_exprs e es)) p (valued (made_verdict s (some_exprs e es)))
+pub made_unnamed : {X : Type 0} (view : X → Known) (r : Result (Option X) ExprError) (s : Scope) (p : Place) (e : Expression) (es : ExpressionList) (k : Option Known) → is_name e ≡ false →
+    faults s e ++ part_broken e (other_than_name s e) ≡ [] → fine (other_than_name s e) ≡ k → AnswersBehindParts view r (operands_faults s es) p (valued (asked_both unmade k (operand_list s es))) →
+    AnswersBehindParts view r (made_faults s (some_exprs e es)) p (valued (made_verdict s (some_exprs e es)))
 made_unnamed view r s p e es k other none gives h =
     by_other view r s p e es other
-    (subst (λ (o : Option Known). Behind view r (faults s e ++ part_broken e (other_than_name s e) ++ operands_faults s es) p (valued (asked_both unmade o (operands s es)))) (sym gives)
-    (subst (λ (l : List (Place × FaultKind)). Behind view r (l ++ operands_faults s es) p (valued (asked_both unmade k (operands s es)))) (sym none) h))
+    (subst (λ (o : Option Known). AnswersBehindParts view r (faults s e ++ part_broken e (other_than_name s e) ++ operands_faults s es) p (valued (asked_both unmade o (operand_list s es)))) (sym gives)
+    (subst (λ (l : List (Place × FaultKind)). AnswersBehindParts view r (l ++ operands_faults s es) p (valued (asked_both unmade k (operand_list s es)))) (sym none) h))
 
-pub other_fails : {X : Type 0} (view : X → Known) (error : ExprError) (s : Scope) (p : Place) (e : Expr) (es : Exprs) → is_name e ≡ false → Fails error (faults s e ++ part_broken e (other_than_name s e)) →
-    Behind view (Err error) (made_faults s (some_exprs e es)) p (valued (made_verdict s (some_exprs e es)))
+pub other_fails : {X : Type 0} (view : X → Known) (error : ExprError) (s : Scope) (p : Place) (e : Expression) (es : ExpressionList) → is_name e ≡ false → Fails error (faults s e ++ part_broken e (other_than_name s e)) →
+    AnswersBehindParts view (Err error) (made_faults s (some_exprs e es)) p (valued (made_verdict s (some_exprs e es)))
 other_fails view error s p e es other h =
     let own = faults s e ++ part_broken e (other_than_name s e) in
     by_other view (Err error) s p e es other (fails_front error (own ++ operands_faults s es) _ (fails_front error own (operands_faults s es) h))
@@ -141,16 +141,16 @@ literal_asked view r s p q t es k none is h =
     (subst (λ (l : List (Place × FaultKind)). Answers view r (l ++ elements_faults s k 0 es ++ broken p (literal_verdict s k es)) (fine (literal_verdict s k es))) (sym none) h)
 
 -- fields of the code as a list
-pub fields_packed : (fs : List Field) → fields_in fs ≡ packed (map field_of fs)
+pub fields_packed : (fs : List Field) → fields_in fs ≡ pack_field_list (map typed_field fs)
 fields_packed [] = refl
-fields_packed (f ∷ fs) = ap (types.field (option_map string_bytes f.package) (string_bytes f.name) (type_of f.of)) (fields_packed fs)
+fields_packed (f ∷ fs) = ap (types.field (option_map string_bytes f.package) (string_bytes f.name) (go_type f.of)) (fields_packed fs)
 
-pub fields_listed : (fs : List Field) → listed (fields_in fs) ≡ map field_of fs
+pub fields_listed : (fs : List Field) → listed (fields_in fs) ≡ map typed_field fs
 fields_listed [] = refl
-fields_listed (f ∷ fs) = ap (λ l. field_of f ∷ l) (fields_listed fs)
+fields_listed (f ∷ fs) = ap (λ l. typed_field f ∷ l) (fields_listed fs)
 
 -- the same of the code's literals
-pub literal_answered : (r : Result (Option Found) ExprError) (s : Scope) (e : Expression) (of : Box TypeNode Global) (q : Place) (rows : Vec ElementNode Global) (a : TypeNode) (es : List ElementNode) (k : Option types.Type') →
+pub literal_answered : (r : Result (Option Found) ExprError) (s : Scope) (e : ExprNode) (of : Box TypeNode Global) (q : Place) (rows : Vec ElementNode Global) (a : TypeNode) (es : List ElementNode) (k : Option types.Type') →
     e.kind ≡ CompositeLit of q rows → of.value ≡ a → es ≡ rows.items → type_faults s (type_tree a) ≡ [] → fine (type_verdict s (type_tree a)) ≡ k →
     Answers known_of r (elements_faults s k 0 (elements_in es) ++ broken e.place (literal_verdict s k (elements_in es))) (fine (literal_verdict s k (elements_in es))) →
     Answers known_of r (faults s (expr_tree e)) (fine (verdict s (expr_tree e)))
@@ -158,4 +158,4 @@ literal_answered r s e of q rows a es k is held same none known h =
     let seen : expr_tree e ≡ composite_lit e.place (type_tree a) q (elements_in es) =
     ap (λ (k : ExprKind). expr_tree (record { place = e.place; kind = k })) is ∙ literal_seen e.place of q rows a held
     ∙ ap (λ (l : List ElementNode). composite_lit e.place (type_tree a) q (elements_in l)) (sym same) in
-    subst (λ (x : Expr). Answers known_of r (faults s x) (fine (verdict s x))) (sym seen) (literal_asked known_of r s e.place q (type_tree a) (elements_in es) k none known h)
+    subst (λ (x : Expression). Answers known_of r (faults s x) (fine (verdict s x))) (sym seen) (literal_asked known_of r s e.place q (type_tree a) (elements_in es) k none known h)

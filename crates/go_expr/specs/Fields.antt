@@ -2,8 +2,8 @@
 use Rattle.std.specs.Prelude.{ℕ, List, Option, option_map, string_bytes}
 use Rattle.go_types.specs.declared.types.Field.{Field}
 use Rattle.go_types.specs.Types.{Type'}
-use Rattle.go_types.specs.Views.{type_of}
+use Rattle.go_types.specs.Views.{go_type}
 
 -- a field: the path of its package where its name isn't exported, its name, and its type
-abbrev pub field_of : Field → Option (List ℕ) × (List ℕ × Type')
-field_of f = (option_map string_bytes f.package, (string_bytes f.name, type_of f.of))
+abbrev pub typed_field : Field → Option (List ℕ) × (List ℕ × Type')
+typed_field f = (option_map string_bytes f.package, (string_bytes f.name, go_type f.of))

@@ -53,8 +53,8 @@ pub record Scope : Type 0 where
   pub names : List (List ℕ × Verdict Known)
 
 -- https://go.dev/ref/spec#Declarations_and_scope
-abbrev pub look_up : List ℕ → List (List ℕ × Verdict Known) → Verdict Known
-look_up x names = unwrap_or (lookup (bytes_eq x) names) (Breaks Undeclared)
+abbrev pub look_up_known : List ℕ → List (List ℕ × Verdict Known) → Verdict Known
+look_up_known x names = unwrap_or (lookup (bytes_eq x) names) (Breaks Undeclared)
 
 -- what a name of a package finds
 abbrev pub named : Option Declared → Verdict Known

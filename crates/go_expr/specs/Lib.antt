@@ -1,5 +1,5 @@
 pub mod Fields
 pub mod Known
 pub mod Rules
-pub mod Seen
 pub mod Verdicts
+pub mod Views

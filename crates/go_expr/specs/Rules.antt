@@ -35,7 +35,7 @@ use Rattle.go_types.specs.Types.{Type', basic, array, slice, struct, Fields, no_
 pub use Rattle.go_types.specs.Names.{is_exported}
 use Rattle.go_types.specs.Relations.{underlying, identical, is_comparable, assignable, convertible}
 use Rattle.go_types.specs.Sizes.{cells, nodes}
-pub use Rattle.go_scope.specs.Index.{differ}
+pub use Rattle.go_scope.specs.Index.{are_distinct}
 use Rattle.go_typed.specs.declared.expression.Operator.TheVariants as nodes
 use Rattle.go_typed.specs.Trees as typed
 use Rattle.go_typed.specs.Trees.{Symbol, Expr, Exprs, Parts, constant, expr_type, pack_exprs, pack_parts}
@@ -55,14 +55,14 @@ abbrev pub valued : Verdict Expr → Verdict Known
 valued v = checked (λ e. Fine (declared (value e))) v
 
 -- of several faults of a node the one of the least number is told
-abbrev pub lesser : Option FaultKind → Option FaultKind → Option FaultKind
-lesser None k = k
-lesser (Some k) None = Some k
-lesser (Some k) (Some l) = if nat_le (fault_number k) (fault_number l) then Some k else Some l
+abbrev pub lesser_fault : Option FaultKind → Option FaultKind → Option FaultKind
+lesser_fault None k = k
+lesser_fault (Some k) None = Some k
+lesser_fault (Some k) (Some l) = if nat_le (fault_number k) (fault_number l) then Some k else Some l
 
 abbrev pub least : List FaultKind → Option FaultKind
 least [] = None
-least (k ∷ ks) = lesser (Some k) (least ks)
+least (k ∷ ks) = lesser_fault (Some k) (least ks)
 
 abbrev pub when : Bool → FaultKind → List FaultKind
 when b k = if b then k ∷ [] else []
@@ -71,8 +71,8 @@ abbrev pub wrong : {A : Type 0} → Verdict A → List FaultKind
 wrong v = elim v [ Breaks k ↦ k ∷ [] | _ ↦ [] ]
 
 -- each of some, unless one breaks its rule or there are other faults
-abbrev pub each_unless : {A : Type 0} → List FaultKind → List (Verdict A) → Verdict (List A)
-each_unless ks vs = elim (least (ks ++ flat_map wrong vs)) [ None ↦ Fine (filter_map fine vs) | Some k ↦ Breaks k ]
+abbrev pub fine_list : {A : Type 0} → List FaultKind → List (Verdict A) → Verdict (List A)
+fine_list ks vs = elim (least (ks ++ flat_map wrong vs)) [ None ↦ Fine (filter_map fine vs) | Some k ↦ Breaks k ]
 
 abbrev pub numbered : {A : Type 0} → ℕ → List A → List (ℕ × A)
 numbered n [] = []
@@ -84,13 +84,13 @@ abbrev pub constant_in : Expr → Option Const
 constant_in e = elim e [ constant t c ↦ Some c | _ ↦ None ]
 
 -- what an operator gives as a constant of a type, or what is wrong with it
-abbrev pub given : Type' → Result Const ConstError → Verdict Expr
-given t (Ok c) = Fine (constant t c)
-given t (Err errors.Mismatch) = Breaks Mismatch
-given t (Err errors.Range) = Breaks Range
-given t (Err errors.Constant) = Breaks Constant
-given t (Err errors.Divide) = Breaks DivideByZero
-given t (Err errors.Memory) = Passed
+abbrev pub constant_or_fault : Type' → Result Const ConstError → Verdict Expr
+constant_or_fault t (Ok c) = Fine (constant t c)
+constant_or_fault t (Err errors.Mismatch) = Breaks Mismatch
+constant_or_fault t (Err errors.Range) = Breaks Range
+constant_or_fault t (Err errors.Constant) = Breaks Constant
+constant_or_fault t (Err errors.Divide) = Breaks DivideByZero
+constant_or_fault t (Err errors.Memory) = Passed
 
 -- https://go.dev/ref/spec#Numeric_types
 abbrev pub int_kind : Type' → Option IntKind
@@ -137,16 +137,16 @@ abbrev pub is_small : Type' → Bool
 is_small t = nat_le (nodes t) 65536 && nat_le (cells t) 65536
 
 -- https://go.dev/ref/spec#Array_types
-abbrev pub array_of : Expr → Type' → Verdict Type'
-array_of size of = elim (constant_in size) [
+abbrev pub array_verdict : Expr → Type' → Verdict Type'
+array_verdict size of = elim (constant_in size) [
   | Some (Integer (pos n)) ↦ if nat_le n 65536 && is_small (array n of) then Fine (array n of) else Breaks Size
   | Some (Integer (negsuc n)) ↦ Breaks Range
   | _ ↦ Breaks Mismatch
 ]
 
 -- https://go.dev/ref/spec#Slice_types
-abbrev pub slice_of : Type' → Verdict Type'
-slice_of of = if is_small (slice of) then Fine (slice of) else Breaks Size
+abbrev pub slice_verdict : Type' → Verdict Type'
+slice_verdict of = if is_small (slice of) then Fine (slice of) else Breaks Size
 
 abbrev pub slice_element : Type' → Option Type'
 slice_element t = elim (underlying t) [ slice of ↦ Some of | _ ↦ None ]
@@ -161,9 +161,9 @@ declared_field path t n = (if is_exported n.text then None else Some path, (n.te
 abbrev pub field_names : FieldList → List (List ℕ)
 field_names fs = map (λ f. (f.1).0) fs
 
-abbrev pub packed : FieldList → Fields
-packed [] = no_fields
-packed (f ∷ fs) = field f.0 (f.1).0 (f.1).1 (packed fs)
+abbrev pub pack_field_list : FieldList → Fields
+pack_field_list [] = no_fields
+pack_field_list (f ∷ fs) = field f.0 (f.1).0 (f.1).1 (pack_field_list fs)
 
 abbrev pub listed : Fields → FieldList
 listed no_fields = []
@@ -173,8 +173,8 @@ listed (field path x t fs) = (path, (x, t)) ∷ listed fs
 abbrev pub struct_of : FieldList → Verdict Type'
 struct_of fs =
     if list_any (bytes_eq (codes "_")) (field_names fs) then Breaks LeftOut
-    else (if not (is_small (struct (packed fs))) then Breaks Size
-    else (if differ (field_names fs) then Fine (struct (packed fs)) else Breaks Redeclared))
+    else (if not (is_small (struct (pack_field_list fs))) then Breaks Size
+    else (if are_distinct (field_names fs) then Fine (struct (pack_field_list fs)) else Breaks Redeclared))
 
 -- ---- values of types
 
@@ -238,11 +238,11 @@ numeral (b ∷ c ∷ bs) =
     else (8, if is_either 111 79 c then bs else c ∷ bs)))
 numeral bs = (10, bs)
 
-abbrev pub number_of : ℕ → List ℕ → ℕ
-number_of base digits = digits_value base (filter (λ b. is_digit b base) digits)
+abbrev pub digits_number : ℕ → List ℕ → ℕ
+digits_number base digits = digits_value base (filter (λ b. is_digit b base) digits)
 
 abbrev pub literal : List ℕ → Verdict Expr
-literal text = given (basic (basics.Untyped kinds.Int)) (constants.represent None (pos (number_of (numeral text).0 (numeral text).1)))
+literal text = constant_or_fault (basic (basics.Untyped kinds.Int)) (constants.represent None (pos (digits_number (numeral text).0 (numeral text).1)))
 
 -- ---- composite literals: https://go.dev/ref/spec#Composite_literals
 
@@ -283,7 +283,7 @@ abbrev pub parts_by : (ℕ → Option (List ℕ) → Option (ℕ × Type')) → 
 parts_by slot es = map (λ k. element_part slot k.0 k.1) (numbered 0 es)
 
 abbrev pub array_parts : ℕ → Type' → ElementList → Verdict (List (ℕ × Expr))
-array_parts n of es = each_unless (when (any_keyed es) LeftOut ++ when (nat_lt n (length es)) Index) (parts_by (λ i key. Some (i, of)) es)
+array_parts n of es = fine_list (when (any_keyed es) LeftOut ++ when (nat_lt n (length es)) Index) (parts_by (λ i key. Some (i, of)) es)
 
 -- all elements have keys, or there are as many as fields
 abbrev pub is_counted : FieldList → ElementList → Bool
@@ -291,7 +291,7 @@ is_counted fs es = all_keyed es || (not (any_keyed es) && nat_eq (length es) (le
 
 abbrev pub struct_faults : List ℕ → FieldList → ElementList → List FaultKind
 struct_faults path fs es =
-    flat_map (key_fault path fs) (keys es) ++ when (not (differ (keys es))) Redeclared ++ when (not (is_counted fs es)) Count
+    flat_map (key_fault path fs) (keys es) ++ when (not (are_distinct (keys es))) Redeclared ++ when (not (is_counted fs es)) Count
     ++ when (not (all_keyed es) && not (list_all (λ f. is_visible path f.0) fs)) Unexported
 
 -- where they aren't counted right an element is for a part by its key alone
@@ -302,14 +302,14 @@ abbrev pub struct_slot : FieldList → ElementList → ℕ → Option (List ℕ)
 struct_slot fs es = if is_counted fs es then field_slot fs else keyed_slot fs
 
 abbrev pub struct_parts : List ℕ → FieldList → ElementList → Verdict (List (ℕ × Expr))
-struct_parts path fs es = each_unless (struct_faults path fs es) (parts_by (struct_slot fs es) es)
+struct_parts path fs es = fine_list (struct_faults path fs es) (parts_by (struct_slot fs es) es)
 
 abbrev pub parts_of : List ℕ → Type' → ElementList → Verdict (List (ℕ × Expr))
 parts_of path t es = elim (underlying t) [ array n of ↦ array_parts n of es | struct fs ↦ struct_parts path (listed fs) es | _ ↦ Breaks Mismatch ]
 
 -- no element has a key
 abbrev pub slice_parts : Type' → ElementList → Verdict (List Expr)
-slice_parts of es = each_unless (when (any_keyed es) LeftOut) (map (λ e. assigned of e.1) es)
+slice_parts of es = fine_list (when (any_keyed es) LeftOut) (map (λ e. assigned of e.1) es)
 
 abbrev pub literal_of : List ℕ → Type' → ElementList → Verdict Expr
 literal_of path t es = elim (slice_element t) [
@@ -359,8 +359,8 @@ untyped_literal path due es = elim due [
 abbrev pub fields_of : Type' → FieldList
 fields_of t = elim (underlying t) [ struct fs ↦ listed fs | _ ↦ [] ]
 
-abbrev pub field_of : List ℕ → List ℕ → Expr → Verdict Expr
-field_of path x e = elim (field_named x (fields_of (expr_type e))) [
+abbrev pub field_verdict : List ℕ → List ℕ → Expr → Verdict Expr
+field_verdict path x e = elim (field_named x (fields_of (expr_type e))) [
   | None ↦ Breaks Undeclared
   | Some f ↦ if is_visible path (f.1).0 then Fine (typed.field ((f.1).1).1 e f.0) else Breaks Unexported
 ]
@@ -369,8 +369,8 @@ field_of path x e = elim (field_named x (fields_of (expr_type e))) [
 abbrev pub exported : List ℕ → Names → Verdict Known
 exported x names = if is_exported x then unwrap_or (option_map named (lookup (bytes_eq x) names)) (Breaks Undeclared) else Breaks Unexported
 
-abbrev pub selected : List ℕ → List ℕ → Known → Verdict Known
-selected path x k = elim k [ package' names ↦ exported x names | k ↦ valued (checked (field_of path x) (value_due k)) ]
+abbrev pub selection_verdict : List ℕ → List ℕ → Known → Verdict Known
+selection_verdict path x k = elim k [ package' names ↦ exported x names | k ↦ valued (checked (field_verdict path x) (value_due k)) ]
 
 -- in a type a package is due before the dot
 abbrev pub exported_by : List ℕ → Known → Verdict Known
@@ -392,8 +392,8 @@ is_within n (Some (Integer (negsuc i))) = false
 is_within (Some n) (Some (Integer (pos i))) = nat_lt i n
 is_within n c = true
 
-abbrev pub index_of : Expr → Expr → Verdict Expr
-index_of e i = elim (indexed_type (expr_type e)) [
+abbrev pub index_verdict : Expr → Expr → Verdict Expr
+index_verdict e i = elim (indexed_type (expr_type e)) [
   | None ↦ Breaks Mismatch
   | Some t ↦ if not (is_integer (expr_type i)) then Breaks Mismatch
       else checked (λ i. if is_within (known_length e) (constant_in i) then Fine (typed.index t (settled e) i) else Breaks Index) (defaulted i)
@@ -410,8 +410,8 @@ is_bound n c = true
 abbrev pub as_count : Expr → Expr
 as_count e = if is_untyped (expr_type e) then as_type int e else e
 
-abbrev pub bound_of : Option ℕ → Expr → Verdict Expr
-bound_of n e = if not (is_integer (expr_type e)) then Breaks Mismatch else (if is_bound n (constant_in e) then Fine (as_count e) else Breaks Index)
+abbrev pub bound_verdict : Option ℕ → Expr → Verdict Expr
+bound_verdict n e = if not (is_integer (expr_type e)) then Breaks Mismatch else (if is_bound n (constant_in e) then Fine (as_count e) else Breaks Index)
 
 -- of two constants the first isn't above the other
 abbrev pub are_ordered : Option Const → Option Const → Bool
@@ -433,12 +433,12 @@ given_bounds a (Some b) = unwrap_or a (constant int (Integer (pos 0))) ∷ b ∷
 abbrev pub cut_of : Expr → Option Expr → Option Expr → Verdict Expr
 cut_of e a b =
     if not (is_some (slice_element (expr_type e)) || is_string (expr_type e)) then Breaks Mismatch
-    else checked (cut_to e) (each_unless [] (map (bound_of (known_length e)) (given_bounds a b)))
+    else checked (cut_to e) (fine_list [] (map (bound_verdict (known_length e)) (given_bounds a b)))
 
 -- https://go.dev/ref/spec#Making_slices_maps_and_channels
 -- a constant size is an int from 0 on
-abbrev pub size_of : Expr → Verdict Expr
-size_of e = if not (is_integer (expr_type e)) then Breaks Mismatch else (if is_bound None (constant_in e) then Fine (as_count e) else Breaks Range)
+abbrev pub size_verdict : Expr → Verdict Expr
+size_verdict e = if not (is_integer (expr_type e)) then Breaks Mismatch else (if is_bound None (constant_in e) then Fine (as_count e) else Breaks Range)
 
 abbrev pub made_of : Type' → List Expr → Verdict Expr
 made_of t sizes = elim sizes [ n ∷ [] ↦ Fine (typed.make t n typed.absent) | n ∷ c ∷ [] ↦ Fine (typed.make t n (typed.present c)) | _ ↦ Passed ]
@@ -446,8 +446,8 @@ made_of t sizes = elim sizes [ n ∷ [] ↦ Fine (typed.make t n typed.absent) |
 abbrev pub sizes_faults : List Expr → List FaultKind
 sizes_faults xs = elim xs [ n ∷ [] ↦ [] | n ∷ c ∷ [] ↦ when (not (are_ordered (constant_in n) (constant_in c))) Index | _ ↦ Count ∷ [] ]
 
-abbrev pub made : Type' → List Expr → Verdict Expr
-made t xs = checked (made_of t) (each_unless (when (not (is_some (slice_element t))) Mismatch ++ sizes_faults xs) (map size_of xs))
+abbrev pub make_verdict : Type' → List Expr → Verdict Expr
+make_verdict t xs = checked (made_of t) (fine_list (when (not (is_some (slice_element t))) Mismatch ++ sizes_faults xs) (map size_verdict xs))
 
 -- of what can't be a type nothing is made; it needn't be a value, but a call of Println is a statement
 abbrev pub unprinted : Known → Verdict Known
@@ -457,11 +457,11 @@ abbrev pub unmade : Known → List Expr → Verdict Expr
 unmade k xs = Breaks Mismatch
 
 -- https://go.dev/ref/spec#Appending_and_copying_slices
-abbrev pub appended : List Expr → Verdict Expr
-appended [] = Breaks Count
-appended (s ∷ xs) = elim (slice_element (expr_type s)) [
+abbrev pub append_verdict : List Expr → Verdict Expr
+append_verdict [] = Breaks Count
+append_verdict (s ∷ xs) = elim (slice_element (expr_type s)) [
   | None ↦ Breaks Mismatch
-  | Some of ↦ checked (λ ys. Fine (typed.append (expr_type s) (typed.present s) (pack_exprs ys))) (each_unless [] (map (assigned of) xs))
+  | Some of ↦ checked (λ ys. Fine (typed.append (expr_type s) (typed.present s) (pack_exprs ys))) (fine_list [] (map (assigned of) xs))
 ]
 
 -- https://go.dev/ref/spec#Conversions
@@ -506,18 +506,18 @@ abbrev mutual
   part_holds_call typed.no_parts = false
   part_holds_call (typed.part n e parts) = holds_call e || part_holds_call parts
 
-abbrev pub length_in : Expr → Verdict Expr
-length_in e = elim (underlying (expr_type e)) [
+abbrev pub length_verdict : Expr → Verdict Expr
+length_verdict e = elim (underlying (expr_type e)) [
   | array n of ↦ if holds_call e then Breaks Mismatch else Fine (constant int (Integer (pos n)))
   | slice of ↦ Fine (typed.length int e)
   | _ ↦ if is_string (expr_type e) then Fine (typed.length int e) else Breaks Mismatch
 ]
 
 abbrev pub length_of : Expr → Verdict Expr
-length_of e = elim (constant_in e) [ Some (Text bytes) ↦ Fine (constant int (Integer (pos (length bytes)))) | _ ↦ length_in e ]
+length_of e = elim (constant_in e) [ Some (Text bytes) ↦ Fine (constant int (Integer (pos (length bytes)))) | _ ↦ length_verdict e ]
 
 abbrev pub capacity_of : Expr → Verdict Expr
-capacity_of e = elim (underlying (expr_type e)) [ array n of ↦ length_in e | slice of ↦ Fine (typed.capacity int e) | _ ↦ Breaks Mismatch ]
+capacity_of e = elim (underlying (expr_type e)) [ array n of ↦ length_verdict e | slice of ↦ Fine (typed.capacity int e) | _ ↦ Breaks Mismatch ]
 
 -- https://go.dev/ref/spec#Calls
 abbrev pub one : List Expr → Verdict Expr
@@ -538,23 +538,23 @@ printing v = elim v [ Fine ys ↦ Fine (printed (Ok (pack_exprs ys))) | Breaks k
 abbrev pub called : Known → List Expr → Verdict Known
 called (declared (type' t)) xs = valued (checked (converted t) (one xs))
 called (declared (function s ts rs)) xs =
-    if nat_eq (length ts) (length xs) then checked (λ ys. Fine (function_call s rs ys)) (each_unless [] (map (λ k. assigned k.0 k.1) (zip ts xs))) else Breaks Count
-called (declared println) xs = printing (each_unless [] (map printable xs))
+    if nat_eq (length ts) (length xs) then checked (λ ys. Fine (function_call s rs ys)) (fine_list [] (map (λ k. assigned k.0 k.1) (zip ts xs))) else Breaks Count
+called (declared println) xs = printing (fine_list [] (map printable xs))
 called (declared length') xs = valued (checked length_of (one xs))
 called (declared capacity') xs = valued (checked capacity_of (one xs))
-called (declared append') xs = valued (appended xs)
+called (declared append') xs = valued (append_verdict xs)
 called (declared panic') xs = checked (λ y. Fine (panicked y)) (checked (assigned string) (one xs))
 called _ xs = Breaks Mismatch
 
 -- ---- operators: https://go.dev/ref/spec#Operators
 
 -- an operand without a type takes the other's: of two numbers that of a rune, where one is
-abbrev pub takes : Type' → Type' → Bool
-takes (basic (basics.Untyped kinds.Int)) (basic (basics.Untyped kinds.Rune)) = true
-takes t u = assignable t u
+abbrev pub takes_type : Type' → Type' → Bool
+takes_type (basic (basics.Untyped kinds.Int)) (basic (basics.Untyped kinds.Rune)) = true
+takes_type t u = assignable t u
 
 abbrev pub common : Type' → Type' → Option Type'
-common t u = if takes u t then Some t else (if takes t u then Some u else None)
+common t u = if takes_type u t then Some t else (if takes_type t u then Some u else None)
 
 abbrev pub is_defined : BinaryOperator → Type' → Bool
 is_defined (Arithmetic operator) t = is_integer t || (elim operator [ Add ↦ is_string t | _ ↦ false ])
@@ -577,9 +577,9 @@ divides_by_zero (Arithmetic operator) (Some (Integer z)) = constants.divides ope
 divides_by_zero operator c = false
 
 -- of operands of a type that the operator is defined on
-abbrev pub operated : BinaryOperator → Type' → Expr → Expr → Option Const → Option Const → Verdict Expr
-operated operator t x y (Some c) (Some d) = given (result_type operator t) (constants.binary operator (int_kind t) c d)
-operated operator t x y c d =
+abbrev pub operation_verdict : BinaryOperator → Type' → Expr → Expr → Option Const → Option Const → Verdict Expr
+operation_verdict operator t x y (Some c) (Some d) = constant_or_fault (result_type operator t) (constants.binary operator (int_kind t) c d)
+operation_verdict operator t x y c d =
     if divides_by_zero operator d then Breaks DivideByZero else Fine (operation operator (result_type operator t) (as_type t x) (as_type t y))
 
 -- the type that both operands are taken as
@@ -590,42 +590,42 @@ operand_type operator x y = elim (common (expr_type x) (expr_type y)) [
 ]
 
 abbrev pub combined : BinaryOperator → Expr → Expr → Verdict Expr
-combined operator x y = checked (λ t. operated operator t x y (constant_in x) (constant_in y)) (operand_type operator x y)
+combined operator x y = checked (λ t. operation_verdict operator t x y (constant_in x) (constant_in y)) (operand_type operator x y)
 
 -- a shift has the type of what is shifted; of what isn't constant the count is a uint, unless it has a type
 abbrev pub counted_by : Expr → Expr
 counted_by count = if is_untyped (expr_type count) then as_type uint count else count
 
 abbrev pub shift_of : ShiftOperator → Expr → Expr → Option Const → Option Const → Verdict Expr
-shift_of operator x count (Some c) (Some d) = given (expr_type x) (constants.shift operator (int_kind (expr_type x)) c d)
+shift_of operator x count (Some c) (Some d) = constant_or_fault (expr_type x) (constants.shift operator (int_kind (expr_type x)) c d)
 shift_of operator x count c d =
     if lies_in uint count then Fine (typed.binary (expr_type x) (nodes.Shift operator) x (counted_by count)) else Breaks Range
 
-abbrev pub shifted : ShiftOperator → Expr → Expr → Verdict Expr
-shifted operator x count =
+abbrev pub shift_verdict : ShiftOperator → Expr → Expr → Verdict Expr
+shift_verdict operator x count =
     if is_untyped (expr_type x) && not (is_some (constant_in count)) then Breaks LeftOut
     else (if is_integer (expr_type x) && is_integer (expr_type count) then shift_of operator x count (constant_in x) (constant_in count) else Breaks Mismatch)
 
-abbrev pub binary_of : source.BinaryOperator → Expr → Expr → Verdict Expr
-binary_of operators.Multiply = combined (Arithmetic Multiply)
-binary_of operators.Divide = combined (Arithmetic Divide)
-binary_of operators.Remainder = combined (Arithmetic Remainder)
-binary_of operators.ShiftLeft = shifted Left
-binary_of operators.ShiftRight = shifted Right
-binary_of operators.BitAnd = combined (Arithmetic BitAnd)
-binary_of operators.AndNot = combined (Arithmetic AndNot)
-binary_of operators.Add = combined (Arithmetic Add)
-binary_of operators.Subtract = combined (Arithmetic Subtract)
-binary_of operators.BitOr = combined (Arithmetic BitOr)
-binary_of operators.BitXor = combined (Arithmetic BitXor)
-binary_of operators.Equal = combined (Comparison Equal)
-binary_of operators.NotEqual = combined (Comparison NotEqual)
-binary_of operators.Less = combined (Comparison Less)
-binary_of operators.LessOrEqual = combined (Comparison LessOrEqual)
-binary_of operators.Greater = combined (Comparison Greater)
-binary_of operators.GreaterOrEqual = combined (Comparison GreaterOrEqual)
-binary_of operators.LogicalAnd = combined LogicalAnd
-binary_of operators.LogicalOr = combined LogicalOr
+abbrev pub binary_verdict : source.BinaryOperator → Expr → Expr → Verdict Expr
+binary_verdict operators.Multiply = combined (Arithmetic Multiply)
+binary_verdict operators.Divide = combined (Arithmetic Divide)
+binary_verdict operators.Remainder = combined (Arithmetic Remainder)
+binary_verdict operators.ShiftLeft = shift_verdict Left
+binary_verdict operators.ShiftRight = shift_verdict Right
+binary_verdict operators.BitAnd = combined (Arithmetic BitAnd)
+binary_verdict operators.AndNot = combined (Arithmetic AndNot)
+binary_verdict operators.Add = combined (Arithmetic Add)
+binary_verdict operators.Subtract = combined (Arithmetic Subtract)
+binary_verdict operators.BitOr = combined (Arithmetic BitOr)
+binary_verdict operators.BitXor = combined (Arithmetic BitXor)
+binary_verdict operators.Equal = combined (Comparison Equal)
+binary_verdict operators.NotEqual = combined (Comparison NotEqual)
+binary_verdict operators.Less = combined (Comparison Less)
+binary_verdict operators.LessOrEqual = combined (Comparison LessOrEqual)
+binary_verdict operators.Greater = combined (Comparison Greater)
+binary_verdict operators.GreaterOrEqual = combined (Comparison GreaterOrEqual)
+binary_verdict operators.LogicalAnd = combined LogicalAnd
+binary_verdict operators.LogicalOr = combined LogicalOr
 
 abbrev pub operator_of : signs.UnaryOperator → UnaryOperator
 operator_of sign.Positive = Positive
@@ -636,10 +636,10 @@ operator_of sign.Complement = Complement
 abbrev pub is_operand : signs.UnaryOperator → Type' → Bool
 is_operand operator t = elim operator [ sign.Negation ↦ is_bool t | _ ↦ is_integer t ]
 
-abbrev pub unary_of : signs.UnaryOperator → Expr → Verdict Expr
-unary_of operator e =
+abbrev pub unary_verdict : signs.UnaryOperator → Expr → Verdict Expr
+unary_verdict operator e =
     if not (is_operand operator (expr_type e)) then Breaks Mismatch
     else (elim (constant_in e) [
-      | Some c ↦ given (expr_type e) (constants.unary (operator_of operator) (int_kind (expr_type e)) c)
+      | Some c ↦ constant_or_fault (expr_type e) (constants.unary (operator_of operator) (int_kind (expr_type e)) c)
       | None ↦ Fine (typed.unary (expr_type e) (operator_of operator) e)
     ])

@@ -2,13 +2,13 @@
 ghost use Rattle.std.specs.Prelude.{◌≡◌, [], IfOk, map};
 ghost use Rattle.std.specs.List.{zip};
 ghost use Rattle.std.specs.Option.{option_map};
-ghost use Rattle.go_types.specs.Views.{type_of};
-ghost use Rattle.go_typed.specs.Views.{expr_of};
+ghost use Rattle.go_types.specs.Views.{go_type};
+ghost use Rattle.go_typed.specs.Views.{as_expr};
 ghost use Rattle.go_expr.specs.Known as known;
 ghost use Rattle.go_expr.specs.Known.{Fine};
-ghost use Rattle.go_expr.specs.Rules.{assigned, printing, conversion_to, converted, each_unless, function_call, length_in, length_of, capacity_of, one, printable, called, valued};
+ghost use Rattle.go_expr.specs.Rules.{assigned, printing, conversion_to, converted, fine_list, function_call, length_verdict, length_of, capacity_of, one, printable, called, valued};
 ghost use Rattle.go_expr.specs.Verdicts.{asked_both};
-ghost use Rattle.go_expr.specs.Seen.{known_of, printed_of, function_of, all_of, AnswersAt, Gives};
+ghost use Rattle.go_expr.specs.Views.{known_of, printed_of, declared_function, all_of, AnswersAt, Gives};
 
 use crate::error::{ExprError, RuleError};
 use crate::evaluation::holds_call;
@@ -32,7 +32,7 @@ use std::alloc::{AllocError, Global};
 /// be converted, `Range` where a constant lies outside.
 /// [Conversions](https://go.dev/ref/spec#Conversions)
 pub(crate) fn converted(alloc: Global, of: GoType, value: TypedExpr) -> Result<TypedExpr, RuleError>
-    ensures { Gives expr_of result (converted (type_of of) (expr_of value)) }
+    ensures { Gives as_expr result (converted (go_type of) (as_expr value)) }
 {
     if !convertible(type_in(&value), &of) {
         return Err(RuleError::Broken(FaultKind::Mismatch));
@@ -45,7 +45,7 @@ pub(crate) fn converted(alloc: Global, of: GoType, value: TypedExpr) -> Result<T
 
 /// A value that is converted to a type: a constant becomes one of the type.
 fn conversion_to(alloc: Global, of: GoType, value: TypedExpr) -> Result<TypedExpr, AllocError>
-    ensures { IfOk result (λ e. expr_of e ≡ conversion_to (type_of of) (expr_of value)) }
+    ensures { IfOk result (λ e. as_expr e ≡ conversion_to (go_type of) (as_expr value)) }
 {
     match take_constant(value) {
         Ok(value) => Ok(constant(of, value)),
@@ -60,7 +60,7 @@ pub(crate) fn conversion_at<'a>(
     of: Option<GoType>,
     value: Option<TypedExpr>,
 ) -> Result<Option<Known<'a>>, ExprError>
-    ensures { AnswersAt known_of result place (valued (asked_both converted (option_map type_of of) (option_map expr_of value))) }
+    ensures { AnswersAt known_of result place (valued (asked_both converted (option_map go_type of) (option_map as_expr value))) }
 {
     let Some(of) = of else {
         return Ok(None);
@@ -73,7 +73,7 @@ pub(crate) fn conversion_at<'a>(
 
 /// The length of a value that isn't constant, or of an array or a slice.
 fn length_in(alloc: Global, value: TypedExpr) -> Result<TypedExpr, RuleError>
-    ensures { Gives expr_of result (length_in (expr_of value)) }
+    ensures { Gives as_expr result (length_verdict (as_expr value)) }
 {
     if let GoType::Array(length, _) = underlying(type_in(&value)) {
         if holds_call(&value) {
@@ -91,7 +91,7 @@ fn length_in(alloc: Global, value: TypedExpr) -> Result<TypedExpr, RuleError>
 /// evaluated, since a call stands in it.
 /// [Length and capacity](https://go.dev/ref/spec#Length_and_capacity)
 fn length_of(alloc: Global, value: TypedExpr) -> Result<TypedExpr, RuleError>
-    ensures { Gives expr_of result (length_of (expr_of value)) }
+    ensures { Gives as_expr result (length_of (as_expr value)) }
 {
     if let Some(Const::Text(text)) = constant_in(&value) {
         let length = text.bytes().len() as i128;
@@ -103,7 +103,7 @@ fn length_of(alloc: Global, value: TypedExpr) -> Result<TypedExpr, RuleError>
 /// The capacity of a value. `Mismatch` where it is no slice and no array, or an array that has to be
 /// evaluated, since a call stands in it.
 fn capacity_of(alloc: Global, value: TypedExpr) -> Result<TypedExpr, RuleError>
-    ensures { Gives expr_of result (capacity_of (expr_of value)) }
+    ensures { Gives as_expr result (capacity_of (as_expr value)) }
 {
     if let GoType::Array(_, _) = underlying(type_in(&value)) {
         return length_in(alloc, value);
@@ -116,7 +116,7 @@ fn capacity_of(alloc: Global, value: TypedExpr) -> Result<TypedExpr, RuleError>
 
 /// The one of some arguments. `Count` where they aren't one.
 fn one(arguments: Vec<TypedExpr>) -> Result<TypedExpr, RuleError>
-    ensures { Gives expr_of result (one (map expr_of arguments.items)) }
+    ensures { Gives as_expr result (one (map as_expr arguments.items)) }
 {
     let mut arguments = arguments;
     match arguments.pop() {
@@ -131,7 +131,7 @@ fn all_assigned(
     parameters: &[GoType],
     arguments: Vec<TypedExpr>,
 ) -> Result<Vec<TypedExpr>, RuleError>
-    ensures { Gives (all_of expr_of) result (each_unless [] (map (λ k. assigned k.0 k.1) (zip (map type_of parameters.now) (map expr_of arguments.items)))) }
+    ensures { Gives (all_of as_expr) result (fine_list [] (map (λ k. assigned k.0 k.1) (zip (map go_type parameters.now) (map as_expr arguments.items)))) }
 {
     let mut all = Gathered::new(alloc, None);
     let mut rest = arguments.into_iter();
@@ -146,7 +146,7 @@ fn all_assigned(
 
 /// Types of equal contents. An `Err` only where memory ran out.
 fn copied(alloc: Global, types: &[GoType]) -> Result<Vec<GoType>, AllocError>
-    ensures { IfOk result (λ copy. map type_of copy.items ≡ map type_of types.now) }
+    ensures { IfOk result (λ copy. map go_type copy.items ≡ map go_type types.now) }
 {
     let mut all = Vec::with_capacity(alloc, types.len())?;
     for of in types {
@@ -161,7 +161,7 @@ fn function_call<'a>(
     function: &Function,
     arguments: Vec<TypedExpr>,
 ) -> Result<Known<'a>, AllocError>
-    ensures { IfOk result (λ k. known_of k ≡ function_call function.now.symbol (map type_of function.now.results.items) (map expr_of arguments.items)) }
+    ensures { IfOk result (λ k. known_of k ≡ function_call function.now.symbol (map go_type function.now.results.items) (map as_expr arguments.items)) }
 {
     let symbol = function.symbol.copy()?;
     if let [of] = function.results.as_slice() {
@@ -178,7 +178,7 @@ fn function_called<'a>(
     function: &Function,
     arguments: Vec<TypedExpr>,
 ) -> Result<Known<'a>, RuleError>
-    ensures { Gives known_of result (called (known.declared (function_of function.now)) (map expr_of arguments.items)) }
+    ensures { Gives known_of result (called (known.declared (declared_function function.now)) (map as_expr arguments.items)) }
 {
     if function.parameters.len() != arguments.len() {
         return Err(RuleError::Broken(FaultKind::Count));
@@ -190,7 +190,7 @@ fn function_called<'a>(
 /// A value that Println prints, as one of the type that it takes where none is due. `Mismatch`
 /// where it is no integer, string or truth value.
 fn printable(alloc: Global, value: TypedExpr) -> Result<TypedExpr, RuleError>
-    ensures { Gives expr_of result (printable (expr_of value)) }
+    ensures { Gives as_expr result (printable (as_expr value)) }
 {
     let of = type_in(&value);
     if !(is_integer(of) || is_string(of) || is_bool(of)) {
@@ -201,7 +201,7 @@ fn printable(alloc: Global, value: TypedExpr) -> Result<TypedExpr, RuleError>
 
 /// The operands of a call of Println.
 fn all_printable(alloc: Global, arguments: Vec<TypedExpr>) -> Result<Vec<TypedExpr>, RuleError>
-    ensures { Gives (all_of expr_of) result (each_unless [] (map printable (map expr_of arguments.items))) }
+    ensures { Gives (all_of as_expr) result (fine_list [] (map printable (map as_expr arguments.items))) }
 {
     let mut all = Gathered::new(alloc, None);
     for argument in arguments {
@@ -215,7 +215,7 @@ fn printed(
     alloc: Global,
     arguments: Vec<TypedExpr>,
 ) -> Result<Result<Vec<TypedExpr>, FaultKind>, AllocError>
-    ensures { IfOk result (λ operands. printing (each_unless [] (map printable (map expr_of arguments.items))) ≡ Fine (known.printed (printed_of operands))) }
+    ensures { IfOk result (λ operands. printing (fine_list [] (map printable (map as_expr arguments.items))) ≡ Fine (known.printed (printed_of operands))) }
 {
     match all_printable(alloc, arguments) {
         Ok(operands) => Ok(Ok(operands)),
@@ -230,7 +230,7 @@ fn type_called<'a>(
     of: GoType,
     arguments: Vec<TypedExpr>,
 ) -> Result<Known<'a>, RuleError>
-    ensures { Gives known_of result (called (known.declared (known.type' (type_of of))) (map expr_of arguments.items)) }
+    ensures { Gives known_of result (called (known.declared (known.type' (go_type of))) (map as_expr arguments.items)) }
 {
     let value = one(arguments)?;
     Ok(Known::Value(converted(alloc, of, value)?))
@@ -238,7 +238,7 @@ fn type_called<'a>(
 
 /// The length of arguments. `Count` where they aren't one.
 fn length_called<'a>(alloc: Global, arguments: Vec<TypedExpr>) -> Result<Known<'a>, RuleError>
-    ensures { Gives known_of result (called (known.declared known.length') (map expr_of arguments.items)) }
+    ensures { Gives known_of result (called (known.declared known.length') (map as_expr arguments.items)) }
 {
     let value = one(arguments)?;
     Ok(Known::Value(length_of(alloc, value)?))
@@ -246,7 +246,7 @@ fn length_called<'a>(alloc: Global, arguments: Vec<TypedExpr>) -> Result<Known<'
 
 /// The capacity of arguments. `Count` where they aren't one.
 fn capacity_called<'a>(alloc: Global, arguments: Vec<TypedExpr>) -> Result<Known<'a>, RuleError>
-    ensures { Gives known_of result (called (known.declared known.capacity') (map expr_of arguments.items)) }
+    ensures { Gives known_of result (called (known.declared known.capacity') (map as_expr arguments.items)) }
 {
     let value = one(arguments)?;
     Ok(Known::Value(capacity_of(alloc, value)?))
@@ -255,7 +255,7 @@ fn capacity_called<'a>(alloc: Global, arguments: Vec<TypedExpr>) -> Result<Known
 /// A call of panic with arguments. `Count` where they aren't one; else what is wrong with the one as
 /// a string. [Handling panics](https://go.dev/ref/spec#Handling_panics)
 fn panic_called<'a>(alloc: Global, arguments: Vec<TypedExpr>) -> Result<Known<'a>, RuleError>
-    ensures { Gives known_of result (called (known.declared known.panic') (map expr_of arguments.items)) }
+    ensures { Gives known_of result (called (known.declared known.panic') (map as_expr arguments.items)) }
 {
     let value = one(arguments)?;
     Ok(Known::Panicked(assigned(alloc, string(), value)?))
@@ -267,7 +267,7 @@ fn called<'a>(
     callee: Known<'_>,
     arguments: Vec<TypedExpr>,
 ) -> Result<Known<'a>, RuleError>
-    ensures { Gives known_of result (called (known_of callee.entry) (map expr_of arguments.items)) }
+    ensures { Gives known_of result (called (known_of callee.entry) (map as_expr arguments.items)) }
 {
     match callee {
         Known::Type(of) => type_called(alloc, of, arguments),
@@ -288,7 +288,7 @@ pub(crate) fn call_at<'a>(
     callee: Option<Known<'_>>,
     arguments: Option<Vec<TypedExpr>>,
 ) -> Result<Option<Known<'a>>, ExprError>
-    ensures { AnswersAt known_of result place (asked_both called (option_map known_of callee.entry) (option_map (all_of expr_of) arguments)) }
+    ensures { AnswersAt known_of result place (asked_both called (option_map known_of callee.entry) (option_map (all_of as_expr) arguments)) }
 {
     let Some(callee) = callee else {
         return Ok(None);

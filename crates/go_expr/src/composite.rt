@@ -3,14 +3,14 @@ ghost use Rattle.std.specs.Prelude.{◌≡◌, List, [], ◌∷◌, ◌++◌, Er
 ghost use Rattle.std.specs.List.{flat_map, list_all, list_any};
 ghost use Rattle.std.specs.Option.{option_map};
 ghost use Rattle.std.specs.Str.{bytes_eq};
-ghost use Rattle.go_types.specs.Views.{type_of};
+ghost use Rattle.go_types.specs.Views.{go_type};
 ghost use Rattle.go_typed.specs.Trees.{Expr};
-ghost use Rattle.go_typed.specs.Views.{expr_of, part_of};
+ghost use Rattle.go_typed.specs.Views.{as_expr, part_view};
 ghost use Rattle.go_expr.specs.declared.error.RuleError.TheVariants.{Memory};
 ghost use Rattle.go_expr.specs.Known.{Verdict, Fine};
-ghost use Rattle.go_expr.specs.Rules.{checked, valued, least, differ, keys, key_fault, any_keyed, all_keyed, is_counted, struct_faults, element_part, parts_by, field_slot, struct_slot, each_unless, array_parts, struct_parts, parts_of, slice_parts, literal_of, element_due, due_type, any_value, unwritten, untyped_literal, is_visible};
+ghost use Rattle.go_expr.specs.Rules.{checked, valued, least, are_distinct, keys, key_fault, any_keyed, all_keyed, is_counted, struct_faults, element_part, parts_by, field_slot, struct_slot, fine_list, array_parts, struct_parts, parts_of, slice_parts, literal_of, element_due, due_type, any_value, unwritten, untyped_literal, is_visible};
 ghost use Rattle.go_expr.specs.Verdicts.{asked, asked_both, key_text};
-ghost use Rattle.go_expr.specs.Seen.{known_of, element_of, field_of, fields_seen, slots_of, due_of, all_of, AnswersAt, Gathers, Gives};
+ghost use Rattle.go_expr.specs.Views.{known_of, keyed_part, typed_field, fields_seen, slots_of, due_of, all_of, AnswersAt, Gathers, Gives};
 
 use crate::error::{ExprError, RuleError};
 use crate::fields::NamedFields;
@@ -53,7 +53,7 @@ enum Slots<'a> {
 impl<'a> Slots<'a> {
     /// The number and the type of the part that the element of a number and a key is for.
     fn slot(&self, number: usize, key: Option<&str>) -> Option<(usize, &'a GoType)>
-        ensures { option_map (λ s. (s.0, type_of s.1.now)) result ≡ slots_of self.now number (option_map (λ k. k.now) key.entry) }
+        ensures { option_map (λ s. (s.0, go_type s.1.now)) result ≡ slots_of self.now number (option_map (λ k. k.now) key.entry) }
     {
         match (self, key) {
             (Slots::Elements(of), _) => Some((number, *of)),
@@ -72,7 +72,7 @@ impl<'a> Slots<'a> {
 
 /// A value as the part of a number.
 fn part(number: usize, given: Result<TypedExpr, RuleError>) -> Result<TypedPart, RuleError>
-    ensures answer { (v : Verdict Expr) → Gives expr_of given v → Gives part_of result (checked (λ e. Fine (number, e)) v) }
+    ensures answer { (v : Verdict Expr) → Gives as_expr given v → Gives part_view result (checked (λ e. Fine (number, e)) v) }
     ensures memory { result ≡ Err Memory → given ≡ Err Memory }
 {
     match given {
@@ -89,7 +89,7 @@ fn add_element(
     number: usize,
     element: Element<'_>,
 ) -> Result<(), AllocError>
-    ensures { OnOk result (Gathers part_of all.old all.new (element_part (slots_of slots.now) number (element_of element.entry))) }
+    ensures { OnOk result (Gathers part_view all.old all.new (element_part (slots_of slots.now) number (keyed_part element.entry))) }
 {
     let Some(slot) = slots.slot(number, element.key) else {
         return Ok(());
@@ -105,7 +105,7 @@ fn parts_by(
     elements: Vec<Element<'_>>,
     fault: Option<FaultKind>,
 ) -> Result<Vec<TypedPart>, RuleError>
-    ensures { (ks : List FaultKind) → fault ≡ least ks → Gives (all_of part_of) result (each_unless ks (parts_by (slots_of slots.now) (map element_of elements.entry.items))) }
+    ensures { (ks : List FaultKind) → fault ≡ least ks → Gives (all_of part_view) result (fine_list ks (parts_by (slots_of slots.now) (map keyed_part elements.entry.items))) }
 {
     let mut all = Gathered::new(alloc, fault);
     let mut number = 0;
@@ -118,7 +118,7 @@ fn parts_by(
 
 /// Whether one of some elements has a key.
 fn any_keyed(elements: &[Element<'_>]) -> bool
-    ensures { result ≡ any_keyed (map element_of elements.now) }
+    ensures { result ≡ any_keyed (map keyed_part elements.now) }
 {
     for element in elements {
         if element.key.is_some() {
@@ -130,7 +130,7 @@ fn any_keyed(elements: &[Element<'_>]) -> bool
 
 /// Whether all of some elements have keys.
 fn all_keyed(elements: &[Element<'_>]) -> bool
-    ensures { result ≡ all_keyed (map element_of elements.now) }
+    ensures { result ≡ all_keyed (map keyed_part elements.now) }
 {
     for element in elements {
         if element.key.is_none() {
@@ -143,8 +143,8 @@ fn all_keyed(elements: &[Element<'_>]) -> bool
 /// Adds the key of an element to names, if it has one. Answers whether it stood there before. An
 /// `Err` only where memory ran out.
 fn add_key<'a>(names: &mut NameIndex<'a>, element: &Element<'a>) -> Result<bool, AllocError>
-    ensures known { IfOk result (λ known. known ≡ list_any (λ x. is_some (position (bytes_eq x) names.old)) (keys (element_of element.now ∷ []))) }
-    ensures added { OnOk result (names.new ≡ names.old ++ keys (element_of element.now ∷ [])) }
+    ensures known { IfOk result (λ known. known ≡ list_any (λ x. is_some (position (bytes_eq x) names.old)) (keys (keyed_part element.now ∷ []))) }
+    ensures added { OnOk result (names.new ≡ names.old ++ keys (keyed_part element.now ∷ [])) }
 {
     match element.key {
         Some(key) => Ok(names.insert(key)?.is_some()),
@@ -154,7 +154,7 @@ fn add_key<'a>(names: &mut NameIndex<'a>, element: &Element<'a>) -> Result<bool,
 
 /// Whether the keys of elements differ. An `Err` only where memory ran out.
 fn keys_differ(alloc: Global, elements: &[Element<'_>]) -> Result<bool, AllocError>
-    ensures { IfOk result (λ differs. differs ≡ differ (keys (map element_of elements.now))) }
+    ensures { IfOk result (λ differs. differs ≡ are_distinct (keys (map keyed_part elements.now))) }
 {
     let mut names = NameIndex::new(alloc);
     for element in elements {
@@ -177,7 +177,7 @@ fn key_fault(path: &str, fields: &NamedFields<'_>, key: &str) -> Option<FaultKin
 
 /// What is wrong with the key of an element, if it has one.
 fn element_fault(path: &str, fields: &NamedFields<'_>, element: &Element<'_>) -> Option<FaultKind>
-    ensures { result ≡ least (flat_map (key_fault path.now (fields_seen fields.now)) (keys (element_of element.now ∷ []))) }
+    ensures { result ≡ least (flat_map (key_fault path.now (fields_seen fields.now)) (keys (keyed_part element.now ∷ []))) }
 {
     match element.key {
         Some(key) => key_fault(path, fields, key),
@@ -187,7 +187,7 @@ fn element_fault(path: &str, fields: &NamedFields<'_>, element: &Element<'_>) ->
 
 /// The least of what is wrong with keys.
 fn keys_fault(path: &str, fields: &NamedFields<'_>, elements: &[Element<'_>]) -> Option<FaultKind>
-    ensures { result ≡ least (flat_map (key_fault path.now (fields_seen fields.now)) (keys (map element_of elements.now))) }
+    ensures { result ≡ least (flat_map (key_fault path.now (fields_seen fields.now)) (keys (map keyed_part elements.now))) }
 {
     let mut fault = None;
     for element in elements {
@@ -198,7 +198,7 @@ fn keys_fault(path: &str, fields: &NamedFields<'_>, elements: &[Element<'_>]) ->
 
 /// Whether the package of a path sees all fields.
 fn all_visible(path: &str, fields: &[Field]) -> bool
-    ensures { result ≡ list_all (λ f. is_visible path.now f.0) (map field_of fields.now) }
+    ensures { result ≡ list_all (λ f. is_visible path.now f.0) (map typed_field fields.now) }
 {
     for field in fields {
         if !is_visible(path, field) {
@@ -210,7 +210,7 @@ fn all_visible(path: &str, fields: &[Field]) -> bool
 
 /// Whether all elements have keys, or they are as many as the fields.
 fn is_counted(fields: &[Field], elements: &[Element<'_>]) -> bool
-    ensures { result ≡ is_counted (map field_of fields.now) (map element_of elements.now) }
+    ensures { result ≡ is_counted (map typed_field fields.now) (map keyed_part elements.now) }
 {
     all_keyed(elements) || (!any_keyed(elements) && elements.len() == fields.len())
 }
@@ -224,7 +224,7 @@ fn struct_fault(
     fields: &NamedFields<'_>,
     elements: &[Element<'_>],
 ) -> Result<Option<FaultKind>, AllocError>
-    ensures { IfOk result (λ fault. fault ≡ least (struct_faults path.now (fields_seen fields.now) (map element_of elements.now))) }
+    ensures { IfOk result (λ fault. fault ≡ least (struct_faults path.now (fields_seen fields.now) (map keyed_part elements.now))) }
 {
     let keys = keys_fault(path, fields, elements);
     let differs = keys_differ(alloc, elements)?;
@@ -240,7 +240,7 @@ fn struct_fault(
 /// The parts that elements of a struct are for: where they aren't counted right, those of keys
 /// alone.
 fn struct_slots<'a>(fields: NamedFields<'a>, elements: &[Element<'_>]) -> Slots<'a>
-    ensures { slots_of result ≡ struct_slot (fields_seen fields.entry) (map element_of elements.now) }
+    ensures { slots_of result ≡ struct_slot (fields_seen fields.entry) (map keyed_part elements.now) }
 {
     if is_counted(fields.fields, elements) {
         Slots::Fields(fields)
@@ -271,7 +271,7 @@ fn struct_parts(
     fields: &[Field],
     elements: Vec<Element<'_>>,
 ) -> Result<Vec<TypedPart>, RuleError>
-    ensures { Gives (all_of part_of) result (struct_parts path.now (map field_of fields.now) (map element_of elements.entry.items)) }
+    ensures { Gives (all_of part_view) result (struct_parts path.now (map typed_field fields.now) (map keyed_part elements.entry.items)) }
 {
     let fields = fields_for(alloc, fields, &elements)?;
     let fault = struct_fault(alloc, path, &fields, &elements)?;
@@ -286,7 +286,7 @@ fn array_parts(
     of: &GoType,
     elements: Vec<Element<'_>>,
 ) -> Result<Vec<TypedPart>, RuleError>
-    ensures { Gives (all_of part_of) result (array_parts length (type_of of.now) (map element_of elements.entry.items)) }
+    ensures { Gives (all_of part_view) result (array_parts length (go_type of.now) (map keyed_part elements.entry.items)) }
 {
     let keyed = when(any_keyed(&elements), FaultKind::LeftOut);
     let long = when((length as usize) < elements.len(), FaultKind::Index);
@@ -300,7 +300,7 @@ fn parts_of(
     of: &GoType,
     elements: Vec<Element<'_>>,
 ) -> Result<Vec<TypedPart>, RuleError>
-    ensures { Gives (all_of part_of) result (parts_of path.now (type_of of.now) (map element_of elements.entry.items)) }
+    ensures { Gives (all_of part_view) result (parts_of path.now (go_type of.now) (map keyed_part elements.entry.items)) }
 {
     match underlying(of) {
         GoType::Array(length, of) => array_parts(alloc, *length, &of.of, elements),
@@ -315,7 +315,7 @@ fn slice_parts(
     of: &GoType,
     elements: Vec<Element<'_>>,
 ) -> Result<Vec<TypedExpr>, RuleError>
-    ensures { Gives (all_of expr_of) result (slice_parts (type_of of.now) (map element_of elements.entry.items)) }
+    ensures { Gives (all_of as_expr) result (slice_parts (go_type of.now) (map keyed_part elements.entry.items)) }
 {
     let mut all = Gathered::new(alloc, when(any_keyed(&elements), FaultKind::LeftOut));
     for element in elements {
@@ -335,7 +335,7 @@ pub(crate) fn literal_of(
     of: GoType,
     elements: Vec<Element<'_>>,
 ) -> Result<TypedExpr, RuleError>
-    ensures { Gives expr_of result (literal_of path.now (type_of of) (map element_of elements.entry.items)) }
+    ensures { Gives as_expr result (literal_of path.now (go_type of) (map keyed_part elements.entry.items)) }
 {
     if let Some(element) = slice_element(&of) {
         let elements = slice_parts(alloc, element, elements)?;
@@ -368,7 +368,7 @@ pub(crate) enum Due<'a> {
 
 /// The type of the field that the element of a number and a key is for.
 fn field_type<'a>(fields: &'a [Field], number: usize, key: Option<&str>) -> Option<&'a GoType>
-    ensures { option_map (λ t. type_of t.now) result ≡ option_map (λ p. p.1) (field_slot (map field_of fields.now) number (option_map (λ k. k.now) key.entry)) }
+    ensures { option_map (λ t. go_type t.now) result ≡ option_map (λ p. p.1) (field_slot (map typed_field fields.now) number (option_map (λ k. k.now) key.entry)) }
 {
     let Some(name) = key else {
         return Some(&fields.get(number)?.of);
@@ -380,7 +380,7 @@ fn field_type<'a>(fields: &'a [Field], number: usize, key: Option<&str>) -> Opti
 /// What is due of an element that leaves out its type, by the type of its literal, where that is
 /// known, by its number and its key.
 pub(crate) fn element_due<'a>(of: Option<&'a GoType>, number: usize, key: Option<&str>) -> Due<'a>
-    ensures { due_of result ≡ element_due (option_map (λ t. type_of t.now) of.entry) number (option_map (λ k. k.now) key.entry) }
+    ensures { due_of result ≡ element_due (option_map (λ t. go_type t.now) of.entry) number (option_map (λ k. k.now) key.entry) }
 {
     let Some(of) = of else {
         return Due::Nothing;
@@ -396,7 +396,7 @@ pub(crate) fn element_due<'a>(of: Option<&'a GoType>, number: usize, key: Option
 impl<'a> Due<'a> {
     /// The type that the elements are of, if there is one.
     pub(crate) fn of(self) -> Option<&'a GoType>
-        ensures { option_map (λ t. type_of t.now) result ≡ due_type (due_of self.entry) }
+        ensures { option_map (λ t. go_type t.now) result ≡ due_type (due_of self.entry) }
     {
         match self {
             Due::Taken(of) => Some(of),
@@ -408,7 +408,7 @@ impl<'a> Due<'a> {
 
 /// What takes a value for which nothing is due takes any.
 fn any_value() -> TypedExpr
-    ensures { expr_of result ≡ any_value }
+    ensures { as_expr result ≡ any_value }
 {
     constant(GoType::Basic(Basic::Bool), Const::Bool(true))
 }
@@ -421,7 +421,7 @@ fn unwritten(
     of: Option<&GoType>,
     elements: Vec<Element<'_>>,
 ) -> Result<Option<FaultKind>, AllocError>
-    ensures { IfOk result (λ kind. kind ≡ unwritten path.now (option_map (λ t. type_of t.now) of.entry) (map element_of elements.entry.items)) }
+    ensures { IfOk result (λ kind. kind ≡ unwritten path.now (option_map (λ t. go_type t.now) of.entry) (map keyed_part elements.entry.items)) }
 {
     let Some(of) = of else {
         return Ok(Some(FaultKind::Mismatch));
@@ -442,7 +442,7 @@ pub(crate) fn untyped_literal_at(
     due: Due<'_>,
     elements: Option<Vec<Element<'_>>>,
 ) -> Result<Option<TypedExpr>, ExprError>
-    ensures { AnswersAt expr_of result place (asked (untyped_literal path.now (due_of due.entry)) (option_map (all_of element_of) elements.entry)) }
+    ensures { AnswersAt as_expr result place (asked (untyped_literal path.now (due_of due.entry)) (option_map (all_of keyed_part) elements.entry)) }
 {
     let Some(elements) = elements else {
         return Ok(None);
@@ -468,7 +468,7 @@ pub(crate) fn literal_at<'a>(
     of: Option<GoType>,
     elements: Option<Vec<Element<'_>>>,
 ) -> Result<Option<Known<'a>>, ExprError>
-    ensures { AnswersAt known_of result place (valued (asked_both (literal_of path.now) (option_map type_of of) (option_map (all_of element_of) elements.entry))) }
+    ensures { AnswersAt known_of result place (valued (asked_both (literal_of path.now) (option_map go_type of) (option_map (all_of keyed_part) elements.entry))) }
 {
     let Some(of) = of else {
         return Ok(None);

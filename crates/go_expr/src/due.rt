@@ -2,11 +2,11 @@
 ghost use Rattle.std.specs.Prelude.{◌≡◌, [], IfErr, OnOk};
 ghost use Rattle.std.specs.Option.{option_map};
 ghost use Rattle.go_ast.specs.Views.{expr_of as expr_tree};
-ghost use Rattle.go_typed.specs.Views.{expr_of};
-ghost use Rattle.go_expr.specs.Known.{look_up};
+ghost use Rattle.go_typed.specs.Views.{as_expr};
+ghost use Rattle.go_expr.specs.Known.{look_up_known};
 ghost use Rattle.go_expr.specs.Rules.{fine, selectable, callable, packaged, unpackaged, unprinted, value_due};
 ghost use Rattle.go_expr.specs.Verdicts.{asked, bare_place, broken, package_broken, qualifier_broken};
-ghost use Rattle.go_expr.specs.Seen.{known_of, scope_of, AnswersAt, Fails, Gives};
+ghost use Rattle.go_expr.specs.Views.{known_of, scope_of, AnswersAt, Fails, Gives};
 
 use crate::error::{ExprError, RuleError};
 use crate::known::Known;
@@ -34,7 +34,7 @@ pub(crate) fn operand_at(
     place: Place,
     known: Option<Known<'_>>,
 ) -> Result<Option<TypedExpr>, ExprError>
-    ensures { AnswersAt expr_of result place (asked value_due (option_map known_of known.entry)) }
+    ensures { AnswersAt as_expr result place (asked value_due (option_map known_of known.entry)) }
 {
     let Some(known) = known else {
         return Ok(None);
@@ -106,9 +106,9 @@ fn check_package(scope: &Scope<'_>, e: &Expr) -> Result<(), ExprError>
 }
 
 fn check_package_name(scope: &Scope<'_>, place: Place, name: &str) -> Result<(), ExprError>
-    ensures fault { let known = fine (look_up name.now (scope_of scope.now).names) in
+    ensures fault { let known = fine (look_up_known name.now (scope_of scope.now).names) in
         IfErr result (λ error. Fails error (broken place (asked packaged known))) }
-    ensures none { let known = fine (look_up name.now (scope_of scope.now).names) in OnOk result (broken place (asked packaged known) ≡ []) }
+    ensures none { let known = fine (look_up_known name.now (scope_of scope.now).names) in OnOk result (broken place (asked packaged known) ≡ []) }
 {
     match scope.look_up(place, name) {
         Ok(known) => package_at(place, &known),

@@ -1,6 +1,6 @@
 //! Why an expression isn't given.
 ghost use Rattle.std.specs.Prelude.{◌≡◌};
-ghost use Rattle.go_expr.specs.Seen.{LocatedAt};
+ghost use Rattle.go_expr.specs.Views.{LocatedAt};
 ghost use Rattle.go_expr.specs.declared.error.ExprError.TheVariants.{Memory};
 ghost use Rattle.go_expr.specs.declared.error.RuleError.TheVariants.{Memory as RuleMemory};
 

@@ -1,16 +1,16 @@
 //! Operands that have to be evaluated.
 //! [Length and capacity](https://go.dev/ref/spec#Length_and_capacity)
 ghost use Rattle.std.specs.Prelude.{◌≡◌};
-ghost use Rattle.go_typed.specs.Views.{expr_of, exprs_in, parts_in};
+ghost use Rattle.go_typed.specs.Views.{as_expr, as_exprs, parts_in};
 ghost use Rattle.go_expr.specs.Rules.{holds_call, some_hold_call, part_holds_call};
 
 use go_typed::expression::{TypedExpr, TypedExprKind, TypedPart};
 
 /// Whether a call stands in a value, of a function or of len, cap, make or append.
 #[cycle(evaluation)]
-#[tactic(auto, unfolding(go_typed::specs::Views::expr_of))]
+#[tactic(auto, unfolding(go_typed::specs::Views::as_expr))]
 pub(crate) fn holds_call(value: &TypedExpr) -> bool
-    ensures { result ≡ holds_call (expr_of value.now) }
+    ensures { result ≡ holds_call (as_expr value.now) }
 {
     match &value.kind {
         TypedExprKind::Constant(_) | TypedExprKind::Local(_) | TypedExprKind::Global(_) => false,
@@ -34,7 +34,7 @@ pub(crate) fn holds_call(value: &TypedExpr) -> bool
 /// Whether a call stands in some elements of a slice.
 #[cycle(evaluation)]
 fn some_hold_call(es: &[TypedExpr]) -> bool
-    ensures { result ≡ some_hold_call (exprs_in es.now) }
+    ensures { result ≡ some_hold_call (as_exprs es.now) }
 {
     for e in es {
         if holds_call(e) {

@@ -3,11 +3,11 @@ ghost use Rattle.std.specs.Prelude.{◌≡◌, ◌++◌, [], ◌∷◌, drop, ma
 ghost use Rattle.std.specs.Option.{option_map};
 ghost use Rattle.go_ast.specs.Trees.{struct, pack_fields};
 ghost use Rattle.go_ast.specs.Views.{bound_of, expr_of as expr_tree, exprs_in, value_of as element_tree, type_of as type_tree, field_of as field_tree};
-ghost use Rattle.go_types.specs.Views.{type_of};
-ghost use Rattle.go_typed.specs.Views.{expr_of};
-ghost use Rattle.go_expr.specs.Rules.{fine, called, made, unmade, unprinted, type_due, element_due, valued};
-ghost use Rattle.go_expr.specs.Verdicts.{asked, asked_both, joined, broken, operand, inside, subject, callee, key_text, is_make, is_name, verdict, bound_known, call_verdict, made_verdict, operands, elements as elements_known, element_verdict, type_verdict, fields_known, part_broken, operand_broken, faults, bound_faults, call_faults, made_faults, operands_faults, elements_faults, element_faults, type_faults, fields_faults};
-ghost use Rattle.go_expr.specs.Seen.{known_of, element_of, elements_in, literal_verdict, field_of, scope_of, all_of, Answers, Behind};
+ghost use Rattle.go_types.specs.Views.{go_type};
+ghost use Rattle.go_typed.specs.Views.{as_expr};
+ghost use Rattle.go_expr.specs.Rules.{fine, called, make_verdict, unmade, unprinted, type_due, element_due, valued};
+ghost use Rattle.go_expr.specs.Verdicts.{asked, asked_both, chained, broken, operand, inside, subject, callee, key_text, is_make, is_name, verdict, bound_known, call_verdict, made_verdict, operand_list, elements as elements_known, element_verdict, type_verdict, fields_known, part_broken, operand_broken, faults, bound_faults, call_faults, made_faults, operands_faults, elements_faults, element_faults, type_faults, fields_faults};
+ghost use Rattle.go_expr.specs.Views.{known_of, keyed_part, elements_in, literal_verdict, typed_field, scope_of, all_of, Answers, AnswersBehindParts};
 
 use crate::call::{call_at, conversion_at};
 use crate::composite::{Element, element_due, key_text, literal_at, untyped_literal_at};
@@ -103,8 +103,8 @@ fn check_literal<'a>(
     place: Place,
     of: Option<GoType>,
 ) -> Result<Option<Known<'a>>, ExprError>
-    ensures { let s = scope_of scope.now in let t = option_map type_of of in let es = elements_in elements.now in
-        Behind known_of result (elements_faults s t 0 es) place (literal_verdict s t es) }
+    ensures { let s = scope_of scope.now in let t = option_map go_type of in let es = elements_in elements.now in
+        AnswersBehindParts known_of result (elements_faults s t 0 es) place (literal_verdict s t es) }
 {
     let elements = check_elements(alloc, scope, elements, of.as_ref())?;
     literal_at(alloc, place, scope.path(), of, elements)
@@ -119,8 +119,8 @@ fn check_elements<'e>(
     elements: &'e [ElementExpr],
     of: Option<&GoType>,
 ) -> Result<Option<Vec<Element<'e>>>, ExprError>
-    ensures { let s = scope_of scope.now in let t = option_map (λ t. type_of t.now) of.entry in let es = elements_in elements.now in
-        Answers (all_of element_of) result (elements_faults s t 0 es) (elements_known s t 0 es) }
+    ensures { let s = scope_of scope.now in let t = option_map (λ t. go_type t.now) of.entry in let es = elements_in elements.now in
+        Answers (all_of keyed_part) result (elements_faults s t 0 es) (elements_known s t 0 es) }
 {
     let mut all = Some(Vec::new(alloc));
     for (number, element) in elements.iter().enumerate() {
@@ -141,8 +141,8 @@ fn check_element(
     number: usize,
     of: Option<&GoType>,
 ) -> Result<Option<TypedExpr>, ExprError>
-    ensures { let s = scope_of scope.now in let due = element_due (option_map (λ t. type_of t.now) of.entry) number (key_text element.now.key) in
-        let e = element_tree element.now.value in Answers expr_of result (element_faults s due e) (fine (element_verdict s due e)) }
+    ensures { let s = scope_of scope.now in let due = element_due (option_map (λ t. go_type t.now) of.entry) number (key_text element.now.key) in
+        let e = element_tree element.now.value in Answers as_expr result (element_faults s due e) (fine (element_verdict s due e)) }
 {
     match &element.value {
         ElementValue::Expression(e) => check_operand(alloc, scope, e),
@@ -160,8 +160,8 @@ fn with_element<'e>(
     key: &'e Key,
     value: Option<TypedExpr>,
 ) -> Result<Option<Vec<Element<'e>>>, AllocError>
-    ensures { let own = option_map (λ e. (key_text key.now, e) ∷ []) (option_map expr_of value) in
-        IfOk result (λ more. option_map (all_of element_of) more ≡ joined (option_map (all_of element_of) all.entry) own) }
+    ensures { let own = option_map (λ e. (key_text key.now, e) ∷ []) (option_map as_expr value) in
+        IfOk result (λ more. option_map (all_of keyed_part) more ≡ chained (option_map (all_of keyed_part) all.entry) own) }
 {
     let Some(mut all) = all else {
         return Ok(None);
@@ -195,7 +195,7 @@ fn check_call<'a>(
     arguments: &[Expr],
 ) -> Result<Option<Known<'a>>, ExprError>
     ensures { let s = scope_of scope.now in let es = exprs_in arguments.now in
-        Behind known_of result (call_faults s (option_map known_of callee.entry) es) place (call_verdict s (option_map known_of callee.entry) es) }
+        AnswersBehindParts known_of result (call_faults s (option_map known_of callee.entry) es) place (call_verdict s (option_map known_of callee.entry) es) }
 {
     if is_make(&callee) {
         return check_make(alloc, scope, place, arguments);
@@ -213,7 +213,7 @@ fn check_called<'a>(
     arguments: &[Expr],
 ) -> Result<Option<Known<'a>>, ExprError>
     ensures { let s = scope_of scope.now in let es = exprs_in arguments.now in
-        Behind known_of result (operands_faults s es) place (asked_both called (option_map known_of callee.entry) (operands s es)) }
+        AnswersBehindParts known_of result (operands_faults s es) place (asked_both called (option_map known_of callee.entry) (operand_list s es)) }
 {
     let arguments = check_operands(alloc, scope, arguments)?;
     call_at(alloc, place, callee, arguments)
@@ -229,7 +229,7 @@ fn check_make<'a>(
     arguments: &[Expr],
 ) -> Result<Option<Known<'a>>, ExprError>
     ensures { let s = scope_of scope.now in let es = exprs_in arguments.now in
-        Behind known_of result (made_faults s es) place (valued (made_verdict s es)) }
+        AnswersBehindParts known_of result (made_faults s es) place (valued (made_verdict s es)) }
 {
     let [first, ..] = arguments else {
         return Err(ExprError::Faulty(place, FaultKind::Count));
@@ -254,7 +254,7 @@ fn check_sizes<'a>(
     arguments: &[Expr],
 ) -> Result<Option<Known<'a>>, ExprError>
     ensures { let s = scope_of scope.now in let es = exprs_in (drop 1 arguments.now) in
-        Behind known_of result (operands_faults s es) place (valued (asked_both made (option_map type_of of) (operands s es))) }
+        AnswersBehindParts known_of result (operands_faults s es) place (valued (asked_both make_verdict (option_map go_type of) (operand_list s es))) }
 {
     let sizes = check_behind(alloc, scope, arguments)?;
     made_at(alloc, place, of, sizes)
@@ -270,7 +270,7 @@ fn check_no_type<'a>(
     arguments: &[Expr],
 ) -> Result<Option<Known<'a>>, ExprError>
     ensures { let s = scope_of scope.now in let es = exprs_in (drop 1 arguments.now) in
-        Behind known_of result (operands_faults s es) place (valued (asked_both unmade (option_map known_of first.entry) (operands s es))) }
+        AnswersBehindParts known_of result (operands_faults s es) place (valued (asked_both unmade (option_map known_of first.entry) (operand_list s es))) }
 {
     let sizes = check_behind(alloc, scope, arguments)?;
     no_type_at(place, first, sizes)
@@ -285,7 +285,7 @@ fn check_behind(
     expressions: &[Expr],
 ) -> Result<Option<Vec<TypedExpr>>, ExprError>
     ensures { let s = scope_of scope.now in let es = exprs_in (drop 1 expressions.now) in
-        Answers (all_of expr_of) result (operands_faults s es) (operands s es) }
+        Answers (all_of as_expr) result (operands_faults s es) (operand_list s es) }
 {
     let mut all = Some(Vec::new(alloc));
     for i in 1..expressions.len() {
@@ -329,7 +329,7 @@ fn check_type_operand(
     e: &Expr,
 ) -> Result<Option<GoType>, ExprError>
     ensures { let s = scope_of scope.now in let t = asked type_due (fine (verdict s (expr_tree e.now))) in
-        Answers type_of result (faults s (expr_tree e.now) ++ part_broken (expr_tree e.now) t) (fine t) }
+        Answers go_type result (faults s (expr_tree e.now) ++ part_broken (expr_tree e.now) t) (fine t) }
 {
     let known = check_expr(alloc, scope, e)?;
     type_at(bare_place(e), known)
@@ -343,7 +343,7 @@ fn check_bound(
     scope: &Scope<'_>,
     bound: &Bound,
 ) -> Result<Option<Option<TypedExpr>>, ExprError>
-    ensures { let s = scope_of scope.now in Answers (option_map expr_of) result (bound_faults s (bound_of bound.now)) (bound_known s (bound_of bound.now)) }
+    ensures { let s = scope_of scope.now in Answers (option_map as_expr) result (bound_faults s (bound_of bound.now)) (bound_known s (bound_of bound.now)) }
 {
     match bound {
         Bound::Open => Ok(Some(None)),
@@ -403,7 +403,7 @@ pub fn check_operand(
     scope: &Scope<'_>,
     e: &Expr,
 ) -> Result<Option<TypedExpr>, ExprError>
-    ensures { Answers expr_of result (faults (scope_of scope.now) (expr_tree e.now) ++ operand_broken (expr_tree e.now) (verdict (scope_of scope.now) (expr_tree e.now)))
+    ensures { Answers as_expr result (faults (scope_of scope.now) (expr_tree e.now) ++ operand_broken (expr_tree e.now) (verdict (scope_of scope.now) (expr_tree e.now)))
         (operand (verdict (scope_of scope.now) (expr_tree e.now))) }
 {
     let known = check_expr(alloc, scope, e)?;
@@ -418,7 +418,7 @@ pub fn check_operands(
     scope: &Scope<'_>,
     expressions: &[Expr],
 ) -> Result<Option<Vec<TypedExpr>>, ExprError>
-    ensures { Answers (all_of expr_of) result (operands_faults (scope_of scope.now) (exprs_in expressions.now)) (operands (scope_of scope.now) (exprs_in expressions.now)) }
+    ensures { Answers (all_of as_expr) result (operands_faults (scope_of scope.now) (exprs_in expressions.now)) (operand_list (scope_of scope.now) (exprs_in expressions.now)) }
 {
     let mut all = Some(Vec::with_capacity(alloc, expressions.len())?);
     for e in expressions {
@@ -433,7 +433,7 @@ fn with_value(
     all: Option<Vec<TypedExpr>>,
     value: Option<TypedExpr>,
 ) -> Result<Option<Vec<TypedExpr>>, AllocError>
-    ensures { IfOk result (λ more. option_map (all_of expr_of) more ≡ joined (option_map (all_of expr_of) all) (option_map (λ v. v ∷ []) (option_map expr_of value))) }
+    ensures { IfOk result (λ more. option_map (all_of as_expr) more ≡ chained (option_map (all_of as_expr) all) (option_map (λ v. v ∷ []) (option_map as_expr value))) }
 {
     let Some(mut all) = all else {
         return Ok(None);
@@ -453,7 +453,7 @@ pub fn check_type(
     scope: &Scope<'_>,
     of: &TypeExpr,
 ) -> Result<Option<GoType>, ExprError>
-    ensures { Answers type_of result (type_faults (scope_of scope.now) (type_tree of.now)) (fine (type_verdict (scope_of scope.now) (type_tree of.now))) }
+    ensures { Answers go_type result (type_faults (scope_of scope.now) (type_tree of.now)) (fine (type_verdict (scope_of scope.now) (type_tree of.now))) }
 {
     match &of.kind {
         TypeKind::Named(name) => {
@@ -486,7 +486,7 @@ fn check_struct(
     place: Place,
     fields: &[FieldExpr],
 ) -> Result<Option<GoType>, ExprError>
-    ensures { Answers type_of result (type_faults (scope_of scope.now) (struct place (pack_fields (map field_tree fields.now)))) (fine (type_verdict (scope_of scope.now) (struct place (pack_fields (map field_tree fields.now))))) }
+    ensures { Answers go_type result (type_faults (scope_of scope.now) (struct place (pack_fields (map field_tree fields.now)))) (fine (type_verdict (scope_of scope.now) (struct place (pack_fields (map field_tree fields.now))))) }
 {
     let place = struct_place(place, fields);
     let fields = check_fields(alloc, scope, fields)?;
@@ -500,7 +500,7 @@ fn check_fields(
     scope: &Scope<'_>,
     fields: &[FieldExpr],
 ) -> Result<Option<Vec<Field>>, ExprError>
-    ensures { Answers (all_of field_of) result (fields_faults (scope_of scope.now) (pack_fields (map field_tree fields.now))) (fields_known (scope_of scope.now) (pack_fields (map field_tree fields.now))) }
+    ensures { Answers (all_of typed_field) result (fields_faults (scope_of scope.now) (pack_fields (map field_tree fields.now))) (fields_known (scope_of scope.now) (pack_fields (map field_tree fields.now))) }
 {
     let mut all = Some(Vec::new(alloc));
     for field in fields {

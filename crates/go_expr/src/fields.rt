@@ -1,8 +1,8 @@
 //! Fields of a struct by their names. [Struct types](https://go.dev/ref/spec#Struct_types)
 ghost use Rattle.std.specs.Prelude.{◌≡◌, IfOk, map, unwrap_or};
 ghost use Rattle.std.specs.Option.{option_map};
-ghost use Rattle.go_expr.specs.Fields.{field_of};
-ghost use Rattle.go_expr.specs.Rules.{differ, field_named, field_names};
+ghost use Rattle.go_expr.specs.Fields.{typed_field};
+ghost use Rattle.go_expr.specs.Rules.{are_distinct, field_named, field_names};
 
 use crate::selector::field_named;
 use go_scope::name_index::NameIndex;
@@ -11,7 +11,7 @@ use std::alloc::{AllocError, Global};
 
 /// Whether the names of fields differ. An `Err` only where memory ran out.
 pub(crate) fn differ(alloc: Global, fields: &[Field]) -> Result<bool, AllocError>
-    ensures { IfOk result (λ differs. differs ≡ differ (field_names (map field_of fields.now))) }
+    ensures { IfOk result (λ differs. differs ≡ are_distinct (field_names (map typed_field fields.now))) }
 {
     let mut names = NameIndex::new(alloc);
     for field in fields {
@@ -24,7 +24,7 @@ pub(crate) fn differ(alloc: Global, fields: &[Field]) -> Result<bool, AllocError
 
 /// The names of fields, in their order. An `Err` only where memory ran out.
 fn names_of<'a>(alloc: Global, fields: &'a [Field]) -> Result<NameIndex<'a>, AllocError>
-    ensures { IfOk result (λ names. names ≡ field_names (map field_of fields.now)) }
+    ensures { IfOk result (λ names. names ≡ field_names (map typed_field fields.now)) }
 {
     let mut names = NameIndex::new(alloc);
     for field in fields {
@@ -39,8 +39,8 @@ fn field_by<'a>(
     names: &NameIndex<'_>,
     name: &str,
 ) -> Option<(usize, &'a Field)>
-    requires { names.now ≡ field_names (map field_of fields.now) }
-    ensures { option_map (λ f. (f.0, field_of f.1.now)) result ≡ field_named name.now (map field_of fields.now) }
+    requires { names.now ≡ field_names (map typed_field fields.now) }
+    ensures { option_map (λ f. (f.0, typed_field f.1.now)) result ≡ field_named name.now (map typed_field fields.now) }
 {
     let Some(number) = names.get(name) else {
         return None;
@@ -57,7 +57,7 @@ pub(crate) struct NamedFields<'a> {
     /// The fields, in their order.
     pub(crate) fields: &'a [Field],
     names: Option<NameIndex<'a>>,
-    ghost named: { unwrap_or names (field_names (map field_of fields.now)) ≡ field_names (map field_of fields.now) },
+    ghost named: { unwrap_or names (field_names (map typed_field fields.now)) ≡ field_names (map typed_field fields.now) },
 }
 
 impl<'a> NamedFields<'a> {
@@ -81,7 +81,7 @@ impl<'a> NamedFields<'a> {
 
     /// The field of a name, with its number.
     pub(crate) fn named(&self, name: &str) -> Option<(usize, &'a Field)>
-        ensures { option_map (λ f. (f.0, field_of f.1.now)) result ≡ field_named name.now (map field_of self.now.fields.now) }
+        ensures { option_map (λ f. (f.0, typed_field f.1.now)) result ≡ field_named name.now (map typed_field self.now.fields.now) }
     {
         match &self.names {
             Some(names) => field_by(self.fields, names, name),

@@ -1,7 +1,7 @@
 //! The faults of a node: of several the one of the least number is told.
 ghost use Rattle.std.specs.Prelude.{◌≡◌, ◌≢◌, ◌++◌, [], OnOk};
-ghost use Rattle.go_expr.specs.Rules.{lesser, least, when};
-ghost use Rattle.go_expr.specs.Seen.{given_values, given_fault, IsFinished};
+ghost use Rattle.go_expr.specs.Rules.{lesser_fault, least, when};
+ghost use Rattle.go_expr.specs.Views.{given_values, given_fault, IsFinished};
 ghost use Rattle.go_expr.specs.declared.error.RuleError.TheVariants as rule_errors;
 
 use crate::error::RuleError;
@@ -10,7 +10,7 @@ use std::alloc::{AllocError, Global};
 
 /// Of two faults the one of the lesser number.
 pub fn lesser(one: Option<FaultKind>, other: Option<FaultKind>) -> Option<FaultKind>
-    ensures { result ≡ lesser one other }
+    ensures { result ≡ lesser_fault one other }
 {
     match (one, other) {
         (None, _) => other,
@@ -57,7 +57,7 @@ impl<T: Drop> Gathered<T> {
     pub fn add(&mut self, given: Result<T, RuleError>) -> Result<(), AllocError>
         ensures given { OnOk result (given ≢ Err rule_errors.Memory) }
         ensures values { OnOk result (self.new.values.items ≡ self.old.values.items ++ given_values given) }
-        ensures fault { OnOk result (self.new.fault ≡ lesser self.old.fault (given_fault given)) }
+        ensures fault { OnOk result (self.new.fault ≡ lesser_fault self.old.fault (given_fault given)) }
     {
         match given {
             Ok(value) => {

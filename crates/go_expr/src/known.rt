@@ -1,7 +1,7 @@
 //! What is known of expressions, and of names where they stand.
 ghost use Rattle.std.specs.Prelude.{◌≡◌, IfOk};
 ghost use Rattle.std.specs.Option.{option_map};
-ghost use Rattle.go_expr.specs.Seen.{declared_of, names_of, known_of, AnswersAt};
+ghost use Rattle.go_expr.specs.Views.{declared_of, names_of, known_of, AnswersAt};
 ghost use Rattle.go_expr.specs.Known as known;
 ghost use Rattle.go_expr.specs.Known.{library, named};
 

@@ -5,9 +5,9 @@ ghost use Rattle.go_types.specs.declared.types.Basic.TheVariants as basics;
 ghost use Rattle.go_types.specs.declared.types.Untyped.TheVariants as kinds;
 ghost use Rattle.go_types.specs.Types.{basic};
 ghost use Rattle.go_typed.specs.Trees.{constant};
-ghost use Rattle.go_typed.specs.Views.{expr_of};
-ghost use Rattle.go_expr.specs.Rules.{numeral, number_of, literal};
-ghost use Rattle.go_expr.specs.Seen.{Gives};
+ghost use Rattle.go_typed.specs.Views.{as_expr};
+ghost use Rattle.go_expr.specs.Rules.{numeral, digits_number, literal};
+ghost use Rattle.go_expr.specs.Views.{Gives};
 
 use crate::error::RuleError;
 use crate::node::constant;
@@ -36,7 +36,7 @@ fn numeral(text: &[u8]) -> (u32, &[u8])
 fn number_of(base: u32, digits: &[u8]) -> Option<i128>
     requires least { 2 ≤ base }
     requires most { base ≤ 16 }
-    ensures { SomeIff result (number_of base digits.now < 2 ^ 127) (pos (number_of base digits.now)) }
+    ensures { SomeIff result (digits_number base digits.now < 2 ^ 127) (pos (digits_number base digits.now)) }
 {
     let mut number: u128 = 0;
     for byte in digits {
@@ -51,14 +51,14 @@ fn number_of(base: u32, digits: &[u8]) -> Option<i128>
 
 /// A constant that has no type, of a kind.
 pub(crate) fn untyped(kind: Untyped, value: Const) -> TypedExpr
-    ensures { expr_of result ≡ constant (basic (basics.Untyped kind)) value }
+    ensures { as_expr result ≡ constant (basic (basics.Untyped kind)) value }
 {
     constant(GoType::Basic(Basic::Untyped(kind)), value)
 }
 
 /// What an integer literal is. `Constant` where it is 2^127 or more.
 pub(crate) fn literal(text: &str) -> Result<TypedExpr, RuleError>
-    ensures { Gives expr_of result (literal text.now) }
+    ensures { Gives as_expr result (literal text.now) }
 {
     let (base, digits) = numeral(text.as_bytes());
     match number_of(base, digits) {
@@ -69,7 +69,7 @@ pub(crate) fn literal(text: &str) -> Result<TypedExpr, RuleError>
 
 /// What a rune literal is. [Rune literals](https://go.dev/ref/spec#Rune_literals)
 pub(crate) fn rune(value: u32) -> TypedExpr
-    ensures { expr_of result ≡ constant (basic (basics.Untyped kinds.Rune)) (AnInteger (pos value)) }
+    ensures { as_expr result ≡ constant (basic (basics.Untyped kinds.Rune)) (AnInteger (pos value)) }
 {
     untyped(Untyped::Rune, Const::Integer(i128::from(value)))
 }
@@ -77,7 +77,7 @@ pub(crate) fn rune(value: u32) -> TypedExpr
 /// What a string literal is. An `Err` only where memory ran out.
 /// [String literals](https://go.dev/ref/spec#String_literals)
 pub(crate) fn text_constant(alloc: Global, bytes: &[u8]) -> Result<TypedExpr, AllocError>
-    ensures { IfOk result (λ e. expr_of e ≡ constant (basic (basics.Untyped kinds.String)) (AText bytes.now)) }
+    ensures { IfOk result (λ e. as_expr e ≡ constant (basic (basics.Untyped kinds.String)) (AText bytes.now)) }
 {
     let text = Text::new(alloc, bytes)?;
     Ok(untyped(Untyped::String, Const::Text(text)))

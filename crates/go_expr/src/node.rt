@@ -1,9 +1,9 @@
 //! Nodes of typed trees.
 ghost use Rattle.std.specs.Prelude.{◌≡◌, IfOk, option_copied};
-ghost use Rattle.go_types.specs.Views.{type_of};
+ghost use Rattle.go_types.specs.Views.{go_type};
 ghost use Rattle.go_typed.specs.Trees as typed;
 ghost use Rattle.go_typed.specs.Trees.{expr_type};
-ghost use Rattle.go_typed.specs.Views.{expr_of, exprs_in, parts_in};
+ghost use Rattle.go_typed.specs.Views.{as_expr, as_exprs, parts_in};
 ghost use Rattle.go_expr.specs.Rules.{constant_in};
 
 use go_const::constant::Const;
@@ -16,15 +16,15 @@ use std::alloc::{AllocError, Global};
 /// The type of a value.
 #[tactic(auto, using(go_typed::proofs::Rows::type_seen))]
 pub fn type_in(value: &TypedExpr) -> &GoType
-    ensures { type_of result.now ≡ expr_type (expr_of value.now) }
+    ensures { go_type result.now ≡ expr_type (as_expr value.now) }
 {
     &value.of
 }
 
 /// The constant that a value is, if it is one.
-#[tactic(auto, unfolding(go_typed::specs::Views::expr_of))]
+#[tactic(auto, unfolding(go_typed::specs::Views::as_expr))]
 pub fn constant_in(value: &TypedExpr) -> Option<&Const>
-    ensures { option_copied result ≡ constant_in (expr_of value.now) }
+    ensures { option_copied result ≡ constant_in (as_expr value.now) }
 {
     match &value.kind {
         TypedExprKind::Constant(constant) => Some(constant),
@@ -33,9 +33,9 @@ pub fn constant_in(value: &TypedExpr) -> Option<&Const>
 }
 
 /// A constant of a type.
-#[tactic(auto, unfolding(go_typed::specs::Views::expr_of))]
+#[tactic(auto, unfolding(go_typed::specs::Views::as_expr))]
 pub fn constant(of: GoType, value: Const) -> TypedExpr
-    ensures { expr_of result ≡ typed.constant (type_of of) value }
+    ensures { as_expr result ≡ typed.constant (go_type of) value }
 {
     TypedExpr {
         of,
@@ -44,9 +44,9 @@ pub fn constant(of: GoType, value: Const) -> TypedExpr
 }
 
 /// A local variable of a type, by its number.
-#[tactic(auto, unfolding(go_typed::specs::Views::expr_of))]
+#[tactic(auto, unfolding(go_typed::specs::Views::as_expr))]
 pub(crate) fn local(of: GoType, number: usize) -> TypedExpr
-    ensures { expr_of result ≡ typed.local (type_of of) number }
+    ensures { as_expr result ≡ typed.local (go_type of) number }
 {
     TypedExpr {
         of,
@@ -55,9 +55,9 @@ pub(crate) fn local(of: GoType, number: usize) -> TypedExpr
 }
 
 /// A package's variable of a type.
-#[tactic(auto, unfolding(go_typed::specs::Views::expr_of))]
+#[tactic(auto, unfolding(go_typed::specs::Views::as_expr))]
 pub(crate) fn global(of: GoType, symbol: Symbol) -> TypedExpr
-    ensures { expr_of result ≡ typed.global (type_of of) symbol }
+    ensures { as_expr result ≡ typed.global (go_type of) symbol }
 {
     TypedExpr {
         of,
@@ -73,7 +73,7 @@ pub(crate) fn field(
     x: TypedExpr,
     number: usize,
 ) -> Result<TypedExpr, AllocError>
-    ensures { IfOk result (λ e. expr_of e ≡ typed.field (type_of of) (expr_of x) number) }
+    ensures { IfOk result (λ e. as_expr e ≡ typed.field (go_type of) (as_expr x) number) }
 {
     let kind = TypedExprKind::Field(Box::new(alloc, x)?, number);
     Ok(TypedExpr { of, kind })
@@ -87,7 +87,7 @@ pub(crate) fn index(
     x: TypedExpr,
     i: TypedExpr,
 ) -> Result<TypedExpr, AllocError>
-    ensures { IfOk result (λ e. expr_of e ≡ typed.index (type_of of) (expr_of x) (expr_of i)) }
+    ensures { IfOk result (λ e. as_expr e ≡ typed.index (go_type of) (as_expr x) (as_expr i)) }
 {
     let kind = TypedExprKind::Index(Box::new(alloc, x)?, Box::new(alloc, i)?);
     Ok(TypedExpr { of, kind })
@@ -96,7 +96,7 @@ pub(crate) fn index(
 /// The length of a slice or a string.
 #[tactic(auto, using(go_typed::proofs::Rows::length_seen))]
 pub(crate) fn length(alloc: Global, of: GoType, x: TypedExpr) -> Result<TypedExpr, AllocError>
-    ensures { IfOk result (λ e. expr_of e ≡ typed.length (type_of of) (expr_of x)) }
+    ensures { IfOk result (λ e. as_expr e ≡ typed.length (go_type of) (as_expr x)) }
 {
     let kind = TypedExprKind::Length(Box::new(alloc, x)?);
     Ok(TypedExpr { of, kind })
@@ -110,7 +110,7 @@ pub(crate) fn unary(
     operator: UnaryOperator,
     x: TypedExpr,
 ) -> Result<TypedExpr, AllocError>
-    ensures { IfOk result (λ e. expr_of e ≡ typed.unary (type_of of) operator (expr_of x)) }
+    ensures { IfOk result (λ e. as_expr e ≡ typed.unary (go_type of) operator (as_expr x)) }
 {
     let kind = TypedExprKind::Unary(operator, Box::new(alloc, x)?);
     Ok(TypedExpr { of, kind })
@@ -125,7 +125,7 @@ pub(crate) fn binary(
     x: TypedExpr,
     y: TypedExpr,
 ) -> Result<TypedExpr, AllocError>
-    ensures { IfOk result (λ e. expr_of e ≡ typed.binary (type_of of) operator (expr_of x) (expr_of y)) }
+    ensures { IfOk result (λ e. as_expr e ≡ typed.binary (go_type of) operator (as_expr x) (as_expr y)) }
 {
     let kind = TypedExprKind::Binary(operator, Box::new(alloc, x)?, Box::new(alloc, y)?);
     Ok(TypedExpr { of, kind })
@@ -139,7 +139,7 @@ pub(crate) fn both(
     x: TypedExpr,
     y: TypedExpr,
 ) -> Result<TypedExpr, AllocError>
-    ensures { IfOk result (λ e. expr_of e ≡ typed.both (type_of of) (expr_of x) (expr_of y)) }
+    ensures { IfOk result (λ e. as_expr e ≡ typed.both (go_type of) (as_expr x) (as_expr y)) }
 {
     let kind = TypedExprKind::Both(Box::new(alloc, x)?, Box::new(alloc, y)?);
     Ok(TypedExpr { of, kind })
@@ -153,7 +153,7 @@ pub(crate) fn either(
     x: TypedExpr,
     y: TypedExpr,
 ) -> Result<TypedExpr, AllocError>
-    ensures { IfOk result (λ e. expr_of e ≡ typed.either (type_of of) (expr_of x) (expr_of y)) }
+    ensures { IfOk result (λ e. as_expr e ≡ typed.either (go_type of) (as_expr x) (as_expr y)) }
 {
     let kind = TypedExprKind::Either(Box::new(alloc, x)?, Box::new(alloc, y)?);
     Ok(TypedExpr { of, kind })
@@ -162,7 +162,7 @@ pub(crate) fn either(
 /// A conversion.
 #[tactic(auto, using(go_typed::proofs::Rows::conversion_seen))]
 pub(crate) fn conversion(alloc: Global, of: GoType, x: TypedExpr) -> Result<TypedExpr, AllocError>
-    ensures { IfOk result (λ e. expr_of e ≡ typed.conversion (type_of of) (expr_of x)) }
+    ensures { IfOk result (λ e. as_expr e ≡ typed.conversion (go_type of) (as_expr x)) }
 {
     let kind = TypedExprKind::Conversion(Box::new(alloc, x)?);
     Ok(TypedExpr { of, kind })
@@ -171,7 +171,7 @@ pub(crate) fn conversion(alloc: Global, of: GoType, x: TypedExpr) -> Result<Type
 /// An array or a struct of some parts.
 #[tactic(auto, using(go_typed::proofs::Rows::literal_seen))]
 pub(crate) fn literal(of: GoType, parts: Vec<TypedPart>) -> TypedExpr
-    ensures { expr_of result ≡ typed.literal (type_of of) (parts_in parts.items) }
+    ensures { as_expr result ≡ typed.literal (go_type of) (parts_in parts.items) }
 {
     TypedExpr {
         of,
@@ -182,7 +182,7 @@ pub(crate) fn literal(of: GoType, parts: Vec<TypedPart>) -> TypedExpr
 /// The capacity of a slice.
 #[tactic(auto, using(go_typed::proofs::Rows::capacity_seen))]
 pub(crate) fn capacity(alloc: Global, of: GoType, x: TypedExpr) -> Result<TypedExpr, AllocError>
-    ensures { IfOk result (λ e. expr_of e ≡ typed.capacity (type_of of) (expr_of x)) }
+    ensures { IfOk result (λ e. as_expr e ≡ typed.capacity (go_type of) (as_expr x)) }
 {
     let kind = TypedExprKind::Capacity(Box::new(alloc, x)?);
     Ok(TypedExpr { of, kind })
@@ -196,7 +196,7 @@ pub(crate) fn tail(
     x: TypedExpr,
     low: TypedExpr,
 ) -> Result<TypedExpr, AllocError>
-    ensures { IfOk result (λ e. expr_of e ≡ typed.cut (type_of of) (expr_of x) (expr_of low) typed.absent) }
+    ensures { IfOk result (λ e. as_expr e ≡ typed.cut (go_type of) (as_expr x) (as_expr low) typed.absent) }
 {
     let kind = TypedExprKind::Tail(Box::new(alloc, x)?, Box::new(alloc, low)?);
     Ok(TypedExpr { of, kind })
@@ -211,7 +211,7 @@ pub(crate) fn cut(
     low: TypedExpr,
     high: TypedExpr,
 ) -> Result<TypedExpr, AllocError>
-    ensures { IfOk result (λ e. expr_of e ≡ typed.cut (type_of of) (expr_of x) (expr_of low) (typed.present (expr_of high))) }
+    ensures { IfOk result (λ e. as_expr e ≡ typed.cut (go_type of) (as_expr x) (as_expr low) (typed.present (as_expr high))) }
 {
     let x = Box::new(alloc, x)?;
     let kind = TypedExprKind::Cut(x, Box::new(alloc, low)?, Box::new(alloc, high)?);
@@ -221,7 +221,7 @@ pub(crate) fn cut(
 /// A slice that is made with a length.
 #[tactic(auto, using(go_typed::proofs::Rows::make_seen))]
 pub(crate) fn make(alloc: Global, of: GoType, length: TypedExpr) -> Result<TypedExpr, AllocError>
-    ensures { IfOk result (λ e. expr_of e ≡ typed.make (type_of of) (expr_of length) typed.absent) }
+    ensures { IfOk result (λ e. as_expr e ≡ typed.make (go_type of) (as_expr length) typed.absent) }
 {
     let kind = TypedExprKind::Make(Box::new(alloc, length)?);
     Ok(TypedExpr { of, kind })
@@ -235,7 +235,7 @@ pub(crate) fn make_within(
     length: TypedExpr,
     room: TypedExpr,
 ) -> Result<TypedExpr, AllocError>
-    ensures { IfOk result (λ e. expr_of e ≡ typed.make (type_of of) (expr_of length) (typed.present (expr_of room))) }
+    ensures { IfOk result (λ e. as_expr e ≡ typed.make (go_type of) (as_expr length) (typed.present (as_expr room))) }
 {
     let kind = TypedExprKind::MakeWithin(Box::new(alloc, length)?, Box::new(alloc, room)?);
     Ok(TypedExpr { of, kind })
@@ -244,7 +244,7 @@ pub(crate) fn make_within(
 /// A slice of some elements.
 #[tactic(auto, using(go_typed::proofs::Rows::elements_seen))]
 pub(crate) fn elements(of: GoType, elements: Vec<TypedExpr>) -> TypedExpr
-    ensures { expr_of result ≡ typed.append (type_of of) typed.absent (exprs_in elements.items) }
+    ensures { as_expr result ≡ typed.append (go_type of) typed.absent (as_exprs elements.items) }
 {
     TypedExpr {
         of,
@@ -260,7 +260,7 @@ pub(crate) fn append(
     slice: TypedExpr,
     elements: Vec<TypedExpr>,
 ) -> Result<TypedExpr, AllocError>
-    ensures { IfOk result (λ e. expr_of e ≡ typed.append (type_of of) (typed.present (expr_of slice)) (exprs_in elements.items)) }
+    ensures { IfOk result (λ e. as_expr e ≡ typed.append (go_type of) (typed.present (as_expr slice)) (as_exprs elements.items)) }
 {
     let kind = TypedExprKind::Append(Box::new(alloc, slice)?, elements);
     Ok(TypedExpr { of, kind })
@@ -269,7 +269,7 @@ pub(crate) fn append(
 /// A call that has one result.
 #[tactic(auto, using(go_typed::proofs::Rows::call_seen))]
 pub(crate) fn call(of: GoType, symbol: Symbol, arguments: Vec<TypedExpr>) -> TypedExpr
-    ensures { expr_of result ≡ typed.call (type_of of) symbol (exprs_in arguments.items) }
+    ensures { as_expr result ≡ typed.call (go_type of) symbol (as_exprs arguments.items) }
 {
     TypedExpr {
         of,

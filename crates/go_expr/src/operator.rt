@@ -3,16 +3,16 @@ ghost use Rattle.std.specs.Prelude.{◌≡◌, Err, IfOk};
 ghost use Rattle.std.specs.Option.{option_map};
 ghost use Rattle.go_const.specs.declared.error.ConstError.TheVariants as errors;
 ghost use Rattle.go_const.specs.declared.operator.BinaryOperator.TheVariants.{Arithmetic, Comparison};
-ghost use Rattle.go_types.specs.Views.{type_of};
+ghost use Rattle.go_types.specs.Views.{go_type};
 ghost use Rattle.go_typed.specs.declared.expression.Operator.TheVariants as nodes;
 ghost use Rattle.go_typed.specs.Trees as typed;
 ghost use Rattle.go_typed.specs.Trees.{expr_type};
-ghost use Rattle.go_typed.specs.Views.{expr_of};
+ghost use Rattle.go_typed.specs.Views.{as_expr};
 ghost use Rattle.go_expr.specs.Known.{Fine};
 ghost use Rattle.go_expr.specs.declared.error.RuleError.TheVariants.{Memory};
-ghost use Rattle.go_expr.specs.Rules.{valued, constant_in, as_type, given, takes, common, is_defined, result_type, operation, divides_by_zero, operated, operand_type, combined, counted_by, shift_of, shifted, binary_of, operator_of, is_operand, unary_of};
+ghost use Rattle.go_expr.specs.Rules.{valued, constant_in, as_type, constant_or_fault, takes_type, common, is_defined, result_type, operation, divides_by_zero, operation_verdict, operand_type, combined, counted_by, shift_of, shift_verdict, binary_verdict, operator_of, is_operand, unary_verdict};
 ghost use Rattle.go_expr.specs.Verdicts.{asked, asked_both};
-ghost use Rattle.go_expr.specs.Seen.{known_of, does, AnswersAt, Gives};
+ghost use Rattle.go_expr.specs.Views.{known_of, does, AnswersAt, Gives};
 
 use crate::error::{ExprError, RuleError};
 use crate::known::Known;
@@ -39,7 +39,7 @@ use std::alloc::{AllocError, Global};
 
 /// What an operator gives as a constant of a type, or what is wrong with it.
 fn given(of: GoType, value: Result<Const, ConstError>) -> Result<TypedExpr, RuleError>
-    ensures answer { Gives expr_of result (given (type_of of) value) }
+    ensures answer { Gives as_expr result (constant_or_fault (go_type of) value) }
     ensures memory { value ≡ Err errors.Memory → result ≡ Err Memory }
 {
     Err(RuleError::Broken(match value {
@@ -54,7 +54,7 @@ fn given(of: GoType, value: Result<Const, ConstError>) -> Result<TypedExpr, Rule
 
 /// Whether an operand of one type takes another in an operation.
 fn takes(of: &GoType, other: &GoType) -> bool
-    ensures { result ≡ takes (type_of of.now) (type_of other.now) }
+    ensures { result ≡ takes_type (go_type of.now) (go_type other.now) }
 {
     match (of, other) {
         (
@@ -67,7 +67,7 @@ fn takes(of: &GoType, other: &GoType) -> bool
 
 /// The type that two operands both have or take, if there is one.
 fn common<'a>(a: &'a GoType, b: &'a GoType) -> Option<&'a GoType>
-    ensures { option_map (λ t. type_of t.now) result ≡ common (type_of a.now) (type_of b.now) }
+    ensures { option_map (λ t. go_type t.now) result ≡ common (go_type a.now) (go_type b.now) }
 {
     if takes(b, a) {
         Some(a)
@@ -80,7 +80,7 @@ fn common<'a>(a: &'a GoType, b: &'a GoType) -> Option<&'a GoType>
 
 /// Whether an operator is defined on operands of a type.
 fn is_defined(operator: BinaryOperator, of: &GoType) -> bool
-    ensures { result ≡ is_defined operator (type_of of.now) }
+    ensures { result ≡ is_defined operator (go_type of.now) }
 {
     match operator {
         BinaryOperator::Arithmetic(ArithmeticOperator::Add) => is_integer(of) || is_string(of),
@@ -95,7 +95,7 @@ fn is_defined(operator: BinaryOperator, of: &GoType) -> bool
 
 /// The type of what an operator gives of operands of a type.
 fn result_type(operator: BinaryOperator, of: GoType) -> GoType
-    ensures { type_of result ≡ result_type operator (type_of of) }
+    ensures { go_type result ≡ result_type operator (go_type of) }
 {
     match operator {
         BinaryOperator::Comparison(_) => GoType::Basic(Basic::Untyped(Untyped::Bool)),
@@ -111,7 +111,7 @@ fn operator_node(
     x: TypedExpr,
     y: TypedExpr,
 ) -> Result<TypedExpr, AllocError>
-    ensures { IfOk result (λ e. expr_of e ≡ operation operator (type_of of) (expr_of x) (expr_of y)) }
+    ensures { IfOk result (λ e. as_expr e ≡ operation operator (go_type of) (as_expr x) (as_expr y)) }
 {
     match operator {
         BinaryOperator::Arithmetic(operator) => {
@@ -127,7 +127,7 @@ fn operator_node(
 
 /// A value as one of a type that is used again.
 fn taken_as(alloc: Global, of: &GoType, value: TypedExpr) -> Result<TypedExpr, AllocError>
-    ensures { IfOk result (λ e. expr_of e ≡ as_type (type_of of.now) (expr_of value)) }
+    ensures { IfOk result (λ e. as_expr e ≡ as_type (go_type of.now) (as_expr value)) }
 {
     as_type(alloc, of.copy()?, value)
 }
@@ -140,7 +140,7 @@ fn applied(
     x: TypedExpr,
     y: TypedExpr,
 ) -> Result<TypedExpr, AllocError>
-    ensures { IfOk result (λ e. expr_of e ≡ operation operator (result_type operator (type_of of)) (as_type (type_of of) (expr_of x)) (as_type (type_of of) (expr_of y))) }
+    ensures { IfOk result (λ e. as_expr e ≡ operation operator (result_type operator (go_type of)) (as_type (go_type of) (as_expr x)) (as_type (go_type of) (as_expr y))) }
 {
     let x = taken_as(alloc, &of, x)?;
     let y = taken_as(alloc, &of, y)?;
@@ -167,7 +167,7 @@ fn operated(
     x: TypedExpr,
     y: TypedExpr,
 ) -> Result<TypedExpr, RuleError>
-    ensures { Gives expr_of result (operated operator (type_of of) (expr_of x) (expr_of y) (constant_in (expr_of x)) (constant_in (expr_of y))) }
+    ensures { Gives as_expr result (operation_verdict operator (go_type of) (as_expr x) (as_expr y) (constant_in (as_expr x)) (constant_in (as_expr y))) }
 {
     if let (Some(c), Some(d)) = (constant_in(&x), constant_in(&y)) {
         let value = binary(alloc, operator, int_kind(&of), c, d);
@@ -186,7 +186,7 @@ pub fn operand_type(
     x: &TypedExpr,
     y: &TypedExpr,
 ) -> Result<GoType, RuleError>
-    ensures { Gives type_of result (operand_type operator (expr_of x.now) (expr_of y.now)) }
+    ensures { Gives go_type result (operand_type operator (as_expr x.now) (as_expr y.now)) }
 {
     let Some(of) = common(type_in(x), type_in(y)) else {
         return Err(RuleError::Broken(FaultKind::Mismatch));
@@ -207,7 +207,7 @@ fn combined(
     x: TypedExpr,
     y: TypedExpr,
 ) -> Result<TypedExpr, RuleError>
-    ensures { Gives expr_of result (combined operator (expr_of x) (expr_of y)) }
+    ensures { Gives as_expr result (combined operator (as_expr x) (as_expr y)) }
 {
     let of = operand_type(operator, &x, &y)?;
     operated(alloc, operator, of, x, y)
@@ -215,7 +215,7 @@ fn combined(
 
 /// A count of a shift, which is a uint where it has no type.
 fn counted_by(alloc: Global, count: TypedExpr) -> Result<TypedExpr, AllocError>
-    ensures { IfOk result (λ e. expr_of e ≡ counted_by (expr_of count)) }
+    ensures { IfOk result (λ e. as_expr e ≡ counted_by (as_expr count)) }
 {
     if is_untyped(type_in(&count)) {
         as_type(alloc, uint(), count)
@@ -231,7 +231,7 @@ fn shift_of(
     x: TypedExpr,
     count: TypedExpr,
 ) -> Result<TypedExpr, RuleError>
-    ensures { Gives expr_of result (shift_of operator (expr_of x) (expr_of count) (constant_in (expr_of x)) (constant_in (expr_of count))) }
+    ensures { Gives as_expr result (shift_of operator (as_expr x) (as_expr count) (constant_in (as_expr x)) (constant_in (as_expr count))) }
 {
     if let (Some(c), Some(d)) = (constant_in(&x), constant_in(&count)) {
         let of = type_in(&x).copy()?;
@@ -251,8 +251,8 @@ fn shift_by(
     x: TypedExpr,
     count: TypedExpr,
 ) -> Result<TypedExpr, RuleError>
-    ensures { let e = expr_of x in
-        Gives expr_of result (Fine (typed.binary (expr_type e) (nodes.Shift operator) e (counted_by (expr_of count)))) }
+    ensures { let e = as_expr x in
+        Gives as_expr result (Fine (typed.binary (expr_type e) (nodes.Shift operator) e (counted_by (as_expr count)))) }
 {
     let count = counted_by(alloc, count)?;
     let of = type_in(&x).copy()?;
@@ -266,7 +266,7 @@ fn shifted(
     x: TypedExpr,
     count: TypedExpr,
 ) -> Result<TypedExpr, RuleError>
-    ensures { Gives expr_of result (shifted operator (expr_of x) (expr_of count)) }
+    ensures { Gives as_expr result (shift_verdict operator (as_expr x) (as_expr count)) }
 {
     if is_untyped(type_in(&x)) && constant_in(&count).is_none() {
         return Err(RuleError::Broken(FaultKind::LeftOut));
@@ -300,7 +300,7 @@ fn comparison(operator: ComparisonOperator) -> Operation
 
 /// What an operator does.
 fn operation_of(operator: Binary) -> Operation
-    ensures { does result ≡ binary_of operator }
+    ensures { does result ≡ binary_verdict operator }
 {
     match operator {
         Binary::Multiply => arithmetic(ArithmeticOperator::Multiply),
@@ -336,7 +336,7 @@ pub fn binary_of(
     x: TypedExpr,
     y: TypedExpr,
 ) -> Result<TypedExpr, RuleError>
-    ensures { Gives expr_of result (binary_of operator (expr_of x) (expr_of y)) }
+    ensures { Gives as_expr result (binary_verdict operator (as_expr x) (as_expr y)) }
 {
     match operation_of(operator) {
         Operation::Combines(operator) => combined(alloc, operator, x, y),
@@ -358,7 +358,7 @@ fn unary_operator(operator: Unary) -> UnaryOperator
 
 /// Whether an operator in front of an operand is defined on a type.
 fn is_operand(operator: Unary, of: &GoType) -> bool
-    ensures { result ≡ is_operand operator (type_of of.now) }
+    ensures { result ≡ is_operand operator (go_type of.now) }
 {
     match operator {
         Unary::Negation => is_bool(of),
@@ -369,7 +369,7 @@ fn is_operand(operator: Unary, of: &GoType) -> bool
 /// What an operator gives in front of a value. `Mismatch` where it isn't defined on it; `Range`
 /// and `Constant` where what is constant lies outside.
 pub(crate) fn unary_of(alloc: Global, operator: Unary, x: TypedExpr) -> Result<TypedExpr, RuleError>
-    ensures { Gives expr_of result (unary_of operator (expr_of x)) }
+    ensures { Gives as_expr result (unary_verdict operator (as_expr x)) }
 {
     if !is_operand(operator, type_in(&x)) {
         return Err(RuleError::Broken(FaultKind::Mismatch));
@@ -391,7 +391,7 @@ pub(crate) fn binary_at<'a>(
     x: Option<TypedExpr>,
     y: Option<TypedExpr>,
 ) -> Result<Option<Known<'a>>, ExprError>
-    ensures { AnswersAt known_of result place (valued (asked_both (binary_of operator) (option_map expr_of x) (option_map expr_of y))) }
+    ensures { AnswersAt known_of result place (valued (asked_both (binary_verdict operator) (option_map as_expr x) (option_map as_expr y))) }
 {
     let Some(x) = x else {
         return Ok(None);
@@ -409,7 +409,7 @@ pub(crate) fn unary_at<'a>(
     operator: Unary,
     x: Option<TypedExpr>,
 ) -> Result<Option<Known<'a>>, ExprError>
-    ensures { AnswersAt known_of result place (valued (asked (unary_of operator) (option_map expr_of x))) }
+    ensures { AnswersAt known_of result place (valued (asked (unary_verdict operator) (option_map as_expr x))) }
 {
     match x {
         Some(x) => value_at(place, unary_of(alloc, operator, x)),

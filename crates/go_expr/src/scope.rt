@@ -2,8 +2,8 @@
 ghost use Rattle.std.specs.Prelude.{◌≡◌, ◌++◌, bytes_eq, map};
 ghost use Rattle.std.specs.Map.{lookup};
 ghost use Rattle.std.specs.Option.{option_map};
-ghost use Rattle.go_expr.specs.Known.{Fine, look_up, named, universe};
-ghost use Rattle.go_expr.specs.Seen.{known_of, import_of, declared_of, names_in, local_names, locals_of, scope_of, package_names, iota_of, counted, AnswersAt};
+ghost use Rattle.go_expr.specs.Known.{Fine, look_up_known, named, universe};
+ghost use Rattle.go_expr.specs.Views.{known_of, imported_view, declared_of, names_in, local_names, locals_of, scope_of, package_names, iota_of, counted_known, AnswersAt};
 
 use crate::error::ExprError;
 use crate::known::{Declared, Known, Names, named};
@@ -38,7 +38,7 @@ pub struct Scope<'a> {
 
 /// What an import's name finds among imports.
 fn imported<'a>(imports: &'a [Import<'a>], name: &str) -> Option<Known<'a>>
-    ensures { option_map (λ k. Fine (known_of k)) result ≡ lookup (bytes_eq name.now) (map import_of imports.now) }
+    ensures { option_map (λ k. Fine (known_of k)) result ≡ lookup (bytes_eq name.now) (map imported_view imports.now) }
 {
     for import in imports {
         if name == import.name {
@@ -51,7 +51,7 @@ fn imported<'a>(imports: &'a [Import<'a>], name: &str) -> Option<Known<'a>>
 impl<'a> Scope<'a> {
     /// The scope of a file of an edition of the package at a path, by what its imports declare and what the
     /// package declares; in a group of constants with the value of iota.
-    #[tactic(auto, unfolding(crate::specs::Seen::scope_of))]
+    #[tactic(auto, unfolding(crate::specs::Views::scope_of))]
     pub fn new(
         path: &'a str,
         edition: Edition,
@@ -72,7 +72,7 @@ impl<'a> Scope<'a> {
     }
 
     /// The scope of a place in a function: of blocks, whose names hide those of the file.
-    #[tactic(auto, unfolding(crate::specs::Seen::scope_of))]
+    #[tactic(auto, unfolding(crate::specs::Views::scope_of))]
     pub fn in_blocks(
         path: &'a str,
         edition: Edition,
@@ -94,7 +94,7 @@ impl<'a> Scope<'a> {
     }
 
     /// The path of the package.
-    #[tactic(auto, unfolding(crate::specs::Seen::scope_of))]
+    #[tactic(auto, unfolding(crate::specs::Views::scope_of))]
     pub(crate) fn path(&self) -> &str
         ensures { result.now ≡ (scope_of self.now).path }
     {
@@ -103,9 +103,9 @@ impl<'a> Scope<'a> {
 
     /// What a name at a place finds, or its fault.
     /// [Declarations and scope](https://go.dev/ref/spec#Declarations_and_scope)
-    #[tactic(auto, unfolding(crate::specs::Seen::scope_of))]
+    #[tactic(auto, unfolding(crate::specs::Views::scope_of))]
     pub fn look_up(&self, place: Place, name: &str) -> Result<Option<Known<'a>>, ExprError>
-        ensures { AnswersAt known_of result place (look_up name.now (scope_of self.now).names) }
+        ensures { AnswersAt known_of result place (look_up_known name.now (scope_of self.now).names) }
     {
         match local(self.locals, name) {
             Some(declared) => named(place, declared),
@@ -114,9 +114,9 @@ impl<'a> Scope<'a> {
     }
 
     /// What a name at a place finds that no block declares, or its fault.
-    #[tactic(auto, unfolding(crate::specs::Seen::names_in))]
+    #[tactic(auto, unfolding(crate::specs::Views::names_in))]
     fn look_up_outside(&self, place: Place, name: &str) -> Result<Option<Known<'a>>, ExprError>
-        ensures { AnswersAt known_of result place (look_up name.now (names_in self.now.edition self.now.imports.now self.now.declared.now self.now.iota)) }
+        ensures { AnswersAt known_of result place (look_up_known name.now (names_in self.now.edition self.now.imports.now self.now.declared.now self.now.iota)) }
     {
         match imported(self.imports, name) {
             Some(known) => Ok(Some(known)),
@@ -140,7 +140,7 @@ fn local<'a>(
 
 /// A number as a constant that has no type.
 fn number<'a>(number: u64) -> Known<'a>
-    ensures { Fine (known_of result) ≡ counted number }
+    ensures { Fine (known_of result) ≡ counted_known number }
 {
     let of = GoType::Basic(Basic::Untyped(Untyped::Int));
     Known::Value(constant(of, Const::Integer(i128::from(number))))
@@ -154,7 +154,7 @@ fn declared_or_other<'a>(
     iota: Option<u64>,
     name: &str,
 ) -> Result<Option<Known<'a>>, ExprError>
-    ensures { AnswersAt known_of result place (look_up name.now (package_names declared.now ++ (iota_of iota ++ universe edition))) }
+    ensures { AnswersAt known_of result place (look_up_known name.now (package_names declared.now ++ (iota_of iota ++ universe edition))) }
 {
     match declared.get(name) {
         Some(declared) => named(place, declared),
@@ -170,7 +170,7 @@ fn iota_or_other<'a>(
     iota: Option<u64>,
     name: &str,
 ) -> Result<Option<Known<'a>>, ExprError>
-    ensures { AnswersAt known_of result place (look_up name.now (iota_of iota ++ universe edition)) }
+    ensures { AnswersAt known_of result place (look_up_known name.now (iota_of iota ++ universe edition)) }
 {
     let Some(iota) = iota else {
         return predeclared(place, edition, name);

@@ -2,14 +2,14 @@
 ghost use Rattle.std.specs.Prelude.{◌≡◌, IfOk, if◌then◌else◌, map, option_copied, string_bytes};
 ghost use Rattle.std.specs.Option.{option_map};
 ghost use Rattle.go_text.specs.declared.fault.FaultKind.TheVariants.{Index};
-ghost use Rattle.go_types.specs.Views.{type_of};
-ghost use Rattle.go_typed.specs.Views.{expr_of};
+ghost use Rattle.go_types.specs.Views.{go_type};
+ghost use Rattle.go_typed.specs.Views.{as_expr};
 ghost use Rattle.go_typed.specs.Trees as typed;
 ghost use Rattle.go_typed.specs.Trees.{Expr};
 ghost use Rattle.go_expr.specs.Known.{Verdict, Fine, Breaks};
-ghost use Rattle.go_expr.specs.Rules.{checked, valued, is_visible, field_named, fields_of, field_of, value_due, exported, selected, exported_by, constant_in, indexed_type, known_length, is_within, index_of, settled};
+ghost use Rattle.go_expr.specs.Rules.{checked, valued, is_visible, field_named, fields_of, field_verdict, value_due, exported, selection_verdict, exported_by, constant_in, indexed_type, known_length, is_within, index_verdict, settled};
 ghost use Rattle.go_expr.specs.Verdicts.{asked, asked_both};
-ghost use Rattle.go_expr.specs.Seen.{known_of, names_of, field_of as field_seen, AnswersAt, Gives};
+ghost use Rattle.go_expr.specs.Views.{known_of, names_of, typed_field as field_seen, AnswersAt, Gives};
 
 use crate::error::{ExprError, RuleError};
 use crate::known::{Known, Names, named};
@@ -48,7 +48,7 @@ pub(crate) fn field_named<'a>(fields: &'a [Field], name: &str) -> Option<(usize,
 
 /// The fields of a type, which a struct alone has.
 fn fields_of(of: &GoType) -> &[Field]
-    ensures { map field_seen result.now ≡ fields_of (type_of of.now) }
+    ensures { map field_seen result.now ≡ fields_of (go_type of.now) }
 {
     match underlying(of) {
         GoType::Struct(fields) => &fields.list,
@@ -59,7 +59,7 @@ fn fields_of(of: &GoType) -> &[Field]
 /// The field of a name that the package of a path selects from a value. `Undeclared` where there is
 /// none, `Unexported` where it is another package's.
 fn field_of(alloc: Global, path: &str, name: &str, value: TypedExpr) -> Result<TypedExpr, RuleError>
-    ensures { Gives expr_of result (field_of path.now name.now (expr_of value)) }
+    ensures { Gives as_expr result (field_verdict path.now name.now (as_expr value)) }
 {
     let Some((number, field)) = field_named(fields_of(type_in(&value)), name) else {
         return Err(RuleError::Broken(FaultKind::Undeclared));
@@ -74,7 +74,7 @@ fn field_of(alloc: Global, path: &str, name: &str, value: TypedExpr) -> Result<T
 /// The value that is known where one is due. `Count` of a call that has none or several, and of one
 /// of panic; else `Mismatch`. [Operands](https://go.dev/ref/spec#Operands)
 pub fn value_due(known: Known<'_>) -> Result<TypedExpr, RuleError>
-    ensures { Gives expr_of result (value_due (known_of known.entry)) }
+    ensures { Gives as_expr result (value_due (known_of known.entry)) }
 {
     match known {
         Known::Value(value) => Ok(value),
@@ -99,7 +99,7 @@ fn exported<'a>(place: Place, names: &Names, name: &str) -> Result<Option<Known<
 
 /// What a name selects from a value.
 fn field_in(alloc: Global, path: &str, name: &str, known: Known<'_>) -> Result<TypedExpr, RuleError>
-    ensures { Gives expr_of result (checked (field_of path.now name.now) (value_due (known_of known.entry))) }
+    ensures { Gives as_expr result (checked (field_verdict path.now name.now) (value_due (known_of known.entry))) }
 {
     let value = value_due(known)?;
     field_of(alloc, path, name, value)
@@ -113,7 +113,7 @@ fn selected_from<'a>(
     name: &str,
     known: Known<'a>,
 ) -> Result<Option<Known<'a>>, ExprError>
-    ensures { AnswersAt known_of result place (selected path.now name.now (known_of known.entry)) }
+    ensures { AnswersAt known_of result place (selection_verdict path.now name.now (known_of known.entry)) }
 {
     match known {
         Known::Package(names) => exported(place, names, name),
@@ -129,7 +129,7 @@ pub(crate) fn selected<'a>(
     name: &str,
     operand: Option<Known<'a>>,
 ) -> Result<Option<Known<'a>>, ExprError>
-    ensures { AnswersAt known_of result place (asked (selected path.now name.now) (option_map known_of operand.entry)) }
+    ensures { AnswersAt known_of result place (asked (selection_verdict path.now name.now) (option_map known_of operand.entry)) }
 {
     match operand {
         None => Ok(None),
@@ -170,7 +170,7 @@ pub(crate) fn value_at<'a>(
     place: Place,
     given: Result<TypedExpr, RuleError>,
 ) -> Result<Option<Known<'a>>, ExprError>
-    ensures { (v : Verdict Expr) → Gives expr_of given v → AnswersAt known_of result place (valued v) }
+    ensures { (v : Verdict Expr) → Gives as_expr given v → AnswersAt known_of result place (valued v) }
 {
     match given {
         Ok(value) => Ok(Some(Known::Value(value))),
@@ -180,7 +180,7 @@ pub(crate) fn value_at<'a>(
 
 /// The type of what an index selects from values of a type: of arrays, slices and strings. An `Err` only where memory ran out.
 fn indexed_type(of: &GoType) -> Result<Option<GoType>, AllocError>
-    ensures { IfOk result (λ t. option_map type_of t ≡ indexed_type (type_of of.now)) }
+    ensures { IfOk result (λ t. option_map go_type t ≡ indexed_type (go_type of.now)) }
 {
     if let GoType::Array(_, element) = underlying(of) {
         return Ok(Some(element.of.copy()?));
@@ -196,7 +196,7 @@ fn indexed_type(of: &GoType) -> Result<Option<GoType>, AllocError>
 
 /// How many bytes or elements a value has, where that is known.
 pub(crate) fn known_length(value: &TypedExpr) -> Option<usize>
-    ensures { result ≡ known_length (expr_of value.now) }
+    ensures { result ≡ known_length (as_expr value.now) }
 {
     if let Some(Const::Text(text)) = constant_in(value) {
         return Some(text.bytes().len());
@@ -227,7 +227,7 @@ pub(crate) fn index_of(
     value: TypedExpr,
     index: TypedExpr,
 ) -> Result<TypedExpr, RuleError>
-    ensures { Gives expr_of result (index_of (expr_of value) (expr_of index)) }
+    ensures { Gives as_expr result (index_verdict (as_expr value) (as_expr index)) }
 {
     let Some(of) = indexed_type(type_in(&value))? else {
         return Err(RuleError::Broken(FaultKind::Mismatch));
@@ -246,8 +246,8 @@ fn element_at(
     value: TypedExpr,
     index: TypedExpr,
 ) -> Result<TypedExpr, RuleError>
-    ensures { let e = expr_of value in let i = expr_of index in
-        Gives expr_of result (if is_within (known_length e) (constant_in i) then Fine (typed.index (type_of of) (settled e) i) else Breaks Index) }
+    ensures { let e = as_expr value in let i = as_expr index in
+        Gives as_expr result (if is_within (known_length e) (constant_in i) then Fine (typed.index (go_type of) (settled e) i) else Breaks Index) }
 {
     if !is_within(known_length(&value), constant_in(&index)) {
         return Err(RuleError::Broken(FaultKind::Index));
@@ -263,7 +263,7 @@ pub(crate) fn index_at<'a>(
     value: Option<TypedExpr>,
     index: Option<TypedExpr>,
 ) -> Result<Option<Known<'a>>, ExprError>
-    ensures { AnswersAt known_of result place (valued (asked_both index_of (option_map expr_of value) (option_map expr_of index))) }
+    ensures { AnswersAt known_of result place (valued (asked_both index_verdict (option_map as_expr value) (option_map as_expr index))) }
 {
     let Some(value) = value else {
         return Ok(None);

@@ -3,12 +3,12 @@ ghost use Rattle.std.specs.Prelude.{◌≡◌, ◌++◌, List, [], ◌∷◌, If
 ghost use Rattle.std.specs.Option.{option_map, option_copied};
 ghost use Rattle.go_text.specs.declared.fault.FaultKind.{FaultKind};
 ghost use Rattle.go_text.specs.declared.fault.FaultKind.TheVariants.{Mismatch};
-ghost use Rattle.go_types.specs.Views.{type_of};
-ghost use Rattle.go_typed.specs.Views.{expr_of};
+ghost use Rattle.go_types.specs.Views.{go_type};
+ghost use Rattle.go_typed.specs.Views.{as_expr};
 ghost use Rattle.go_expr.specs.Known as known;
-ghost use Rattle.go_expr.specs.Rules.{slice_of, slice_element, is_bound, as_count, bound_of, are_ordered, given_bounds, cut_to, cut_of, size_of, sizes_faults, made_of, made, unmade, assigned, appended, called, when, least, each_unless, valued};
+ghost use Rattle.go_expr.specs.Rules.{slice_verdict, slice_element, is_bound, as_count, bound_verdict, are_ordered, given_bounds, cut_to, cut_of, size_verdict, sizes_faults, made_of, make_verdict, unmade, assigned, append_verdict, called, when, least, fine_list, valued};
 ghost use Rattle.go_expr.specs.Verdicts.{asked, asked_both, both};
-ghost use Rattle.go_expr.specs.Seen.{known_of, all_of, AnswersAt, Gives};
+ghost use Rattle.go_expr.specs.Views.{known_of, all_of, AnswersAt, Gives};
 
 use crate::error::{ExprError, RuleError};
 use crate::gather::{Gathered, lesser, when};
@@ -36,7 +36,7 @@ pub(crate) fn slice_type(
     place: Place,
     of: Option<GoType>,
 ) -> Result<Option<GoType>, ExprError>
-    ensures { AnswersAt type_of result place (asked slice_of (option_map type_of of)) }
+    ensures { AnswersAt go_type result place (asked slice_verdict (option_map go_type of)) }
 {
     let Some(of) = of else {
         return Ok(None);
@@ -50,7 +50,7 @@ pub(crate) fn slice_type(
 
 /// The type of the elements of slices of a type, if they are slices.
 pub fn slice_element(of: &GoType) -> Option<&GoType>
-    ensures { option_map (λ t. type_of t.now) result ≡ slice_element (type_of of.now) }
+    ensures { option_map (λ t. go_type t.now) result ≡ slice_element (go_type of.now) }
 {
     match underlying(of) {
         GoType::Slice(element) => Some(&element.of),
@@ -76,7 +76,7 @@ fn is_bound(length: Option<usize>, bound: Option<&Const>) -> bool
 
 /// What counts elements: an int, unless it has a type.
 fn as_count(alloc: Global, value: TypedExpr) -> Result<TypedExpr, AllocError>
-    ensures { IfOk result (λ e. expr_of e ≡ as_count (expr_of value)) }
+    ensures { IfOk result (λ e. as_expr e ≡ as_count (as_expr value)) }
 {
     if is_untyped(type_in(&value)) {
         as_type(alloc, int(), value)
@@ -88,7 +88,7 @@ fn as_count(alloc: Global, value: TypedExpr) -> Result<TypedExpr, AllocError>
 /// A bound of a part of a value of a length, where that is known. `Mismatch` where it is no integer,
 /// `Index` where a constant is negative, no int or past the end.
 fn bound_of(alloc: Global, length: Option<usize>, value: TypedExpr) -> Result<TypedExpr, RuleError>
-    ensures { Gives expr_of result (bound_of length (expr_of value)) }
+    ensures { Gives as_expr result (bound_verdict length (as_expr value)) }
 {
     if !is_integer(type_in(&value)) {
         return Err(RuleError::Broken(FaultKind::Mismatch));
@@ -117,7 +117,7 @@ fn given_bounds(
     low: Option<TypedExpr>,
     high: Option<TypedExpr>,
 ) -> Result<Vec<TypedExpr>, AllocError>
-    ensures { IfOk result (λ bounds. map expr_of bounds.items ≡ given_bounds (option_map expr_of low) (option_map expr_of high)) }
+    ensures { IfOk result (λ bounds. map as_expr bounds.items ≡ given_bounds (option_map as_expr low) (option_map as_expr high)) }
 {
     let low = match low {
         Some(low) => low,
@@ -137,7 +137,7 @@ fn all_bounds(
     length: Option<usize>,
     bounds: Vec<TypedExpr>,
 ) -> Result<Vec<TypedExpr>, RuleError>
-    ensures { Gives (all_of expr_of) result (each_unless [] (map (bound_of length) (map expr_of bounds.items))) }
+    ensures { Gives (all_of as_expr) result (fine_list [] (map (bound_verdict length) (map as_expr bounds.items))) }
 {
     let mut all = Gathered::new(alloc, None);
     for bound in bounds {
@@ -148,7 +148,7 @@ fn all_bounds(
 
 /// The part of a value between bounds. `Index` where constant ones aren't in order.
 fn cut_to(alloc: Global, value: TypedExpr, bounds: Vec<TypedExpr>) -> Result<TypedExpr, RuleError>
-    ensures { Gives expr_of result (cut_to (expr_of value) (map expr_of bounds.items)) }
+    ensures { Gives as_expr result (cut_to (as_expr value) (map as_expr bounds.items)) }
 {
     let mut bounds = bounds;
     let Some(last) = bounds.pop() else {
@@ -166,7 +166,7 @@ fn cut_to(alloc: Global, value: TypedExpr, bounds: Vec<TypedExpr>) -> Result<Typ
 
 /// The part of a value from a bound on.
 fn cut_behind(alloc: Global, value: TypedExpr, from: TypedExpr) -> Result<TypedExpr, RuleError>
-    ensures { Gives expr_of result (cut_to (expr_of value) (expr_of from ∷ [])) }
+    ensures { Gives as_expr result (cut_to (as_expr value) (as_expr from ∷ [])) }
 {
     let of = default_type(type_in(&value))?;
     let value = settled(alloc, value)?;
@@ -180,7 +180,7 @@ fn cut_between(
     first: TypedExpr,
     last: TypedExpr,
 ) -> Result<TypedExpr, RuleError>
-    ensures { Gives expr_of result (cut_to (expr_of value) (expr_of first ∷ expr_of last ∷ [])) }
+    ensures { Gives as_expr result (cut_to (as_expr value) (as_expr first ∷ as_expr last ∷ [])) }
 {
     if !are_ordered(constant_in(&first), constant_in(&last)) {
         return Err(RuleError::Broken(FaultKind::Index));
@@ -199,7 +199,7 @@ fn cut_of(
     low: Option<TypedExpr>,
     high: Option<TypedExpr>,
 ) -> Result<TypedExpr, RuleError>
-    ensures { Gives expr_of result (cut_of (expr_of value) (option_map expr_of low) (option_map expr_of high)) }
+    ensures { Gives as_expr result (cut_of (as_expr value) (option_map as_expr low) (option_map as_expr high)) }
 {
     let of = type_in(&value);
     if slice_element(of).is_none() && !is_string(of) {
@@ -218,7 +218,7 @@ pub(crate) fn cut_at<'a>(
     low: Option<Option<TypedExpr>>,
     high: Option<Option<TypedExpr>>,
 ) -> Result<Option<Known<'a>>, ExprError>
-    ensures { AnswersAt known_of result place (valued (asked_both (λ e bounds. cut_of e bounds.0 bounds.1) (option_map expr_of value) (both (option_map (option_map expr_of) low) (option_map (option_map expr_of) high)))) }
+    ensures { AnswersAt known_of result place (valued (asked_both (λ e bounds. cut_of e bounds.0 bounds.1) (option_map as_expr value) (both (option_map (option_map as_expr) low) (option_map (option_map as_expr) high)))) }
 {
     let Some(value) = value else {
         return Ok(None);
@@ -235,7 +235,7 @@ pub(crate) fn cut_at<'a>(
 /// A length or a capacity. `Mismatch` where it is no integer, `Range` where a constant is negative or
 /// no int.
 fn size_of(alloc: Global, value: TypedExpr) -> Result<TypedExpr, RuleError>
-    ensures { Gives expr_of result (size_of (expr_of value)) }
+    ensures { Gives as_expr result (size_verdict (as_expr value)) }
 {
     if !is_integer(type_in(&value)) {
         return Err(RuleError::Broken(FaultKind::Mismatch));
@@ -248,7 +248,7 @@ fn size_of(alloc: Global, value: TypedExpr) -> Result<TypedExpr, RuleError>
 
 /// What is wrong with a length and a capacity together.
 fn sizes_fault(sizes: &[TypedExpr]) -> Option<FaultKind>
-    ensures { result ≡ least (sizes_faults (map expr_of sizes.now)) }
+    ensures { result ≡ least (sizes_faults (map as_expr sizes.now)) }
 {
     match sizes {
         [_] => None,
@@ -262,7 +262,7 @@ fn sizes_fault(sizes: &[TypedExpr]) -> Option<FaultKind>
 
 /// The slice of a type that is made with sizes.
 fn made_of(alloc: Global, of: GoType, sizes: Vec<TypedExpr>) -> Result<TypedExpr, RuleError>
-    ensures { Gives expr_of result (made_of (type_of of) (map expr_of sizes.items)) }
+    ensures { Gives as_expr result (made_of (go_type of) (map as_expr sizes.items)) }
 {
     let mut sizes = sizes;
     let Some(last) = sizes.pop() else {
@@ -283,7 +283,7 @@ fn sizes_of(
     sizes: Vec<TypedExpr>,
     fault: Option<FaultKind>,
 ) -> Result<Vec<TypedExpr>, RuleError>
-    ensures { (ks : List FaultKind) → fault ≡ least ks → Gives (all_of expr_of) result (each_unless ks (map size_of (map expr_of sizes.items))) }
+    ensures { (ks : List FaultKind) → fault ≡ least ks → Gives (all_of as_expr) result (fine_list ks (map size_verdict (map as_expr sizes.items))) }
 {
     let mut all = Gathered::new(alloc, fault);
     for size in sizes {
@@ -295,7 +295,7 @@ fn sizes_of(
 /// What is wrong with a type and sizes of a slice together.
 #[tactic(auto, using(crate::proofs::Gathering::least_both))]
 fn made_fault(of: &GoType, sizes: &[TypedExpr]) -> Option<FaultKind>
-    ensures { result ≡ least (when (not (is_some (slice_element (type_of of.now)))) Mismatch ++ sizes_faults (map expr_of sizes.now)) }
+    ensures { result ≡ least (when (not (is_some (slice_element (go_type of.now)))) Mismatch ++ sizes_faults (map as_expr sizes.now)) }
 {
     let no_slice = when(slice_element(of).is_none(), FaultKind::Mismatch);
     lesser(no_slice, sizes_fault(sizes))
@@ -307,8 +307,8 @@ fn made_sizes(
     of: &GoType,
     sizes: Vec<TypedExpr>,
 ) -> Result<Vec<TypedExpr>, RuleError>
-    ensures { let xs = map expr_of sizes.items in
-        Gives (all_of expr_of) result (each_unless (when (not (is_some (slice_element (type_of of.now)))) Mismatch ++ sizes_faults xs) (map size_of xs)) }
+    ensures { let xs = map as_expr sizes.items in
+        Gives (all_of as_expr) result (fine_list (when (not (is_some (slice_element (go_type of.now)))) Mismatch ++ sizes_faults xs) (map size_verdict xs)) }
 {
     let fault = made_fault(of, &sizes);
     sizes_of(alloc, sizes, fault)
@@ -319,7 +319,7 @@ fn made_sizes(
 /// `Index` where the first constant is above the other.
 /// [Making slices](https://go.dev/ref/spec#Making_slices_maps_and_channels)
 fn made(alloc: Global, of: GoType, sizes: Vec<TypedExpr>) -> Result<TypedExpr, RuleError>
-    ensures { Gives expr_of result (made (type_of of) (map expr_of sizes.items)) }
+    ensures { Gives as_expr result (make_verdict (go_type of) (map as_expr sizes.items)) }
 {
     let sizes = made_sizes(alloc, &of, sizes)?;
     made_of(alloc, of, sizes)
@@ -332,7 +332,7 @@ pub(crate) fn made_at<'a>(
     of: Option<GoType>,
     sizes: Option<Vec<TypedExpr>>,
 ) -> Result<Option<Known<'a>>, ExprError>
-    ensures { AnswersAt known_of result place (valued (asked_both made (option_map type_of of) (option_map (all_of expr_of) sizes))) }
+    ensures { AnswersAt known_of result place (valued (asked_both make_verdict (option_map go_type of) (option_map (all_of as_expr) sizes))) }
 {
     let Some(of) = of else {
         return Ok(None);
@@ -349,7 +349,7 @@ pub(crate) fn no_type_at<'a>(
     first: Option<Known<'_>>,
     sizes: Option<Vec<TypedExpr>>,
 ) -> Result<Option<Known<'a>>, ExprError>
-    ensures { AnswersAt known_of result place (valued (asked_both unmade (option_map known_of first.entry) (option_map (all_of expr_of) sizes))) }
+    ensures { AnswersAt known_of result place (valued (asked_both unmade (option_map known_of first.entry) (option_map (all_of as_expr) sizes))) }
 {
     let Some(_) = first else {
         return Ok(None);
@@ -366,7 +366,7 @@ fn all_taken(
     of: &GoType,
     arguments: IntoIter<TypedExpr>,
 ) -> Result<Vec<TypedExpr>, RuleError>
-    ensures { Gives (all_of expr_of) result (each_unless [] (map (assigned (type_of of.now)) (map expr_of arguments.rest.items))) }
+    ensures { Gives (all_of as_expr) result (fine_list [] (map (assigned (go_type of.now)) (map as_expr arguments.rest.items))) }
 {
     let mut all = Gathered::new(alloc, None);
     for argument in arguments {
@@ -381,7 +381,7 @@ fn append_to(
     slice: TypedExpr,
     arguments: IntoIter<TypedExpr>,
 ) -> Result<TypedExpr, RuleError>
-    ensures { Gives expr_of result (appended (expr_of slice ∷ map expr_of arguments.rest.items)) }
+    ensures { Gives as_expr result (append_verdict (as_expr slice ∷ map as_expr arguments.rest.items)) }
 {
     let Some(of) = slice_element(type_in(&slice)) else {
         return Err(RuleError::Broken(FaultKind::Mismatch));
@@ -398,7 +398,7 @@ pub(crate) fn append_called<'a>(
     alloc: Global,
     arguments: Vec<TypedExpr>,
 ) -> Result<Known<'a>, RuleError>
-    ensures { Gives known_of result (called (known.declared known.append') (map expr_of arguments.items)) }
+    ensures { Gives known_of result (called (known.declared known.append') (map as_expr arguments.items)) }
 {
     let mut arguments = arguments.into_iter();
     let Some(slice) = arguments.next() else {

@@ -5,11 +5,11 @@ ghost use Rattle.std.specs.Option.{option_map};
 ghost use Rattle.go_ast.specs.Trees.{pack_fields};
 ghost use Rattle.go_ast.specs.Views.{field_of as field_tree};
 ghost use Rattle.go_types.specs.Types.{struct};
-ghost use Rattle.go_types.specs.Views.{type_of};
-ghost use Rattle.go_typed.specs.Views.{expr_of};
-ghost use Rattle.go_expr.specs.Rules.{type_due, is_small, array_of, declared_field, field_names, packed, struct_of};
-ghost use Rattle.go_expr.specs.Verdicts.{asked, asked_both, joined, first_blank, struct_place};
-ghost use Rattle.go_expr.specs.Seen.{known_of, field_of, all_of, AnswersAt, Gives};
+ghost use Rattle.go_types.specs.Views.{go_type};
+ghost use Rattle.go_typed.specs.Views.{as_expr};
+ghost use Rattle.go_expr.specs.Rules.{type_due, is_small, array_verdict, declared_field, field_names, pack_field_list, struct_of};
+ghost use Rattle.go_expr.specs.Verdicts.{asked, asked_both, chained, first_blank, struct_place};
+ghost use Rattle.go_expr.specs.Views.{known_of, typed_field, all_of, AnswersAt, Gives};
 
 use crate::error::{ExprError, RuleError};
 use crate::fields::differ;
@@ -29,7 +29,7 @@ use std::sync::Arc;
 
 /// The type that is known where one is due; `Mismatch` where none is.
 fn type_due(known: Known<'_>) -> Result<GoType, RuleError>
-    ensures { Gives type_of result (type_due (known_of known.entry)) }
+    ensures { Gives go_type result (type_due (known_of known.entry)) }
 {
     match known {
         Known::Type(of) => Ok(of),
@@ -39,7 +39,7 @@ fn type_due(known: Known<'_>) -> Result<GoType, RuleError>
 
 /// The type that is known at a place where a type is due.
 pub(crate) fn type_at(place: Place, known: Option<Known<'_>>) -> Result<Option<GoType>, ExprError>
-    ensures { AnswersAt type_of result place (asked type_due (option_map known_of known.entry)) }
+    ensures { AnswersAt go_type result place (asked type_due (option_map known_of known.entry)) }
 {
     let Some(known) = known else {
         return Ok(None);
@@ -52,7 +52,7 @@ pub(crate) fn type_at(place: Place, known: Option<Known<'_>>) -> Result<Option<G
 
 /// Whether a type and its values have no more parts than they may.
 pub(crate) fn is_small(of: &GoType) -> bool
-    ensures { result ≡ is_small (type_of of.now) }
+    ensures { result ≡ is_small (go_type of.now) }
 {
     nodes(of).is_ok() && cells(of).is_ok()
 }
@@ -64,7 +64,7 @@ fn array_of(
     length: &TypedExpr,
     of: GoType,
 ) -> Result<Option<GoType>, ExprError>
-    ensures { AnswersAt type_of result place (array_of (expr_of length.now) (type_of of)) }
+    ensures { AnswersAt go_type result place (array_verdict (as_expr length.now) (go_type of)) }
 {
     let Some(Const::Integer(length)) = constant_in(length) else {
         return Err(ExprError::Faulty(place, FaultKind::Mismatch));
@@ -90,7 +90,7 @@ pub(crate) fn array_type(
     length: Option<TypedExpr>,
     of: Option<GoType>,
 ) -> Result<Option<GoType>, ExprError>
-    ensures { AnswersAt type_of result place (asked_both array_of (option_map expr_of length) (option_map type_of of)) }
+    ensures { AnswersAt go_type result place (asked_both array_verdict (option_map as_expr length) (option_map go_type of)) }
 {
     let Some(length) = length else {
         return Ok(None);
@@ -103,7 +103,7 @@ pub(crate) fn array_type(
 
 /// A field of a struct of the package at a path.
 fn field_of(alloc: Global, path: &str, name: &Name, of: &GoType) -> Result<Field, AllocError>
-    ensures { IfOk result (λ f. field_of f ≡ declared_field path.now (type_of of.now) name.now) }
+    ensures { IfOk result (λ f. typed_field f ≡ declared_field path.now (go_type of.now) name.now) }
 {
     let text = name.text();
     let package = if is_exported(text) {
@@ -126,7 +126,7 @@ pub(crate) fn with_fields(
     names: &[Name],
     of: Option<GoType>,
 ) -> Result<Option<Vec<Field>>, AllocError>
-    ensures { IfOk result (λ more. option_map (all_of field_of) more ≡ joined (option_map (all_of field_of) all) (option_map (λ t. map (declared_field path.now t) names.now) (option_map type_of of))) }
+    ensures { IfOk result (λ more. option_map (all_of typed_field) more ≡ chained (option_map (all_of typed_field) all) (option_map (λ t. map (declared_field path.now t) names.now) (option_map go_type of))) }
 {
     let Some(mut all) = all else {
         return Ok(None);
@@ -167,7 +167,7 @@ pub(crate) fn struct_place(place: Place, fields: &[FieldExpr]) -> Place
 
 /// Whether one of some fields has a name.
 fn has_name(fields: &[Field], name: &str) -> bool
-    ensures { result ≡ list_any (bytes_eq name.now) (field_names (map field_of fields.now)) }
+    ensures { result ≡ list_any (bytes_eq name.now) (field_names (map typed_field fields.now)) }
 {
     for field in fields {
         if name == field.name.as_str() {
@@ -179,7 +179,7 @@ fn has_name(fields: &[Field], name: &str) -> bool
 
 /// The struct of some fields.
 fn struct_of(alloc: Global, fields: Vec<Field>) -> Result<GoType, AllocError>
-    ensures { IfOk result (λ of. type_of of ≡ struct (packed (map field_of fields.items))) }
+    ensures { IfOk result (λ of. go_type of ≡ struct (pack_field_list (map typed_field fields.items))) }
 {
     Ok(GoType::Struct(Arc::new(alloc, Fields::new(fields))?))
 }
@@ -191,7 +191,7 @@ pub(crate) fn struct_type(
     place: Place,
     fields: Option<Vec<Field>>,
 ) -> Result<Option<GoType>, ExprError>
-    ensures { AnswersAt type_of result place (asked struct_of (option_map (all_of field_of) fields)) }
+    ensures { AnswersAt go_type result place (asked struct_of (option_map (all_of typed_field) fields)) }
 {
     let Some(fields) = fields else {
         return Ok(None);

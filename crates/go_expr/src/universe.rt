@@ -5,8 +5,8 @@ ghost use Rattle.std.specs.List.{list_any};
 ghost use Rattle.std.specs.Map.{lookup};
 ghost use Rattle.std.specs.Option.{option_map};
 ghost use Rattle.go_text.specs.declared.fault.FaultKind.TheVariants.{LeftOut};
-ghost use Rattle.go_expr.specs.Known.{Fine, Breaks, look_up, basic_types, left_out, slice_functions, truth, others, universe};
-ghost use Rattle.go_expr.specs.Seen.{known_of, AnswersAt};
+ghost use Rattle.go_expr.specs.Known.{Fine, Breaks, look_up_known, basic_types, left_out, slice_functions, truth, others, universe};
+ghost use Rattle.go_expr.specs.Views.{known_of, AnswersAt};
 
 use crate::error::ExprError;
 use crate::known::Known;
@@ -110,7 +110,7 @@ fn slice_function_or_other<'a>(
     edition: Edition,
     name: &str,
 ) -> Result<Option<Known<'a>>, ExprError>
-    ensures { AnswersAt known_of result place (look_up name.now (slice_functions edition ++ others)) }
+    ensures { AnswersAt known_of result place (look_up_known name.now (slice_functions edition ++ others)) }
 {
     if let Some(known) = slice_function(name) {
         if !edition.has_slices() {
@@ -130,7 +130,7 @@ fn left_out_or_other<'a>(
     edition: Edition,
     name: &str,
 ) -> Result<Option<Known<'a>>, ExprError>
-    ensures { AnswersAt known_of result place (look_up name.now (map (λ x. (x, Breaks LeftOut)) left_out ++ (slice_functions edition ++ others))) }
+    ensures { AnswersAt known_of result place (look_up_known name.now (map (λ x. (x, Breaks LeftOut)) left_out ++ (slice_functions edition ++ others))) }
 {
     if is_left_out(name) {
         return Err(ExprError::Faulty(place, FaultKind::LeftOut));
@@ -144,7 +144,7 @@ pub(crate) fn predeclared<'a>(
     edition: Edition,
     name: &str,
 ) -> Result<Option<Known<'a>>, ExprError>
-    ensures { AnswersAt known_of result place (look_up name.now (universe edition)) }
+    ensures { AnswersAt known_of result place (look_up_known name.now (universe edition)) }
 {
     match basic_named(name) {
         Some(basic) => Ok(Some(Known::Type(GoType::Basic(basic)))),

@@ -1,10 +1,10 @@
 //! Values of types.
 ghost use Rattle.std.specs.Prelude.{◌≡◌, IfOk, is_some};
 ghost use Rattle.std.specs.Option.{option_map};
-ghost use Rattle.go_types.specs.Views.{type_of};
-ghost use Rattle.go_typed.specs.Views.{expr_of};
+ghost use Rattle.go_types.specs.Views.{go_type};
+ghost use Rattle.go_typed.specs.Views.{as_expr};
 ghost use Rattle.go_expr.specs.Rules.{int_kind, is_integer, is_string, is_bool, is_untyped, in_kind, lies_in, constant_in, as_type, assigned, default_type, defaulted, condition, settled, settled_type, int, uint, string};
-ghost use Rattle.go_expr.specs.Seen.{Gives, IsTaken};
+ghost use Rattle.go_expr.specs.Views.{Gives, IsTaken};
 
 use crate::error::RuleError;
 use crate::node::{constant, constant_in, conversion, type_in};
@@ -17,21 +17,21 @@ use std::alloc::{AllocError, Global};
 
 /// The type `int`.
 pub(crate) fn int() -> GoType
-    ensures { type_of result ≡ int }
+    ensures { go_type result ≡ int }
 {
     GoType::Basic(Basic::Integer(IntKind::Int))
 }
 
 /// The type `uint`.
 pub(crate) fn uint() -> GoType
-    ensures { type_of result ≡ uint }
+    ensures { go_type result ≡ uint }
 {
     GoType::Basic(Basic::Integer(IntKind::Uint))
 }
 
 /// The type `string`.
 pub(crate) fn string() -> GoType
-    ensures { type_of result ≡ string }
+    ensures { go_type result ≡ string }
 {
     GoType::Basic(Basic::String)
 }
@@ -39,7 +39,7 @@ pub(crate) fn string() -> GoType
 /// The integer type that a type's underlying one is, if it is one.
 /// [Numeric types](https://go.dev/ref/spec#Numeric_types)
 pub(crate) fn int_kind(of: &GoType) -> Option<IntKind>
-    ensures { result ≡ int_kind (type_of of.now) }
+    ensures { result ≡ int_kind (go_type of.now) }
 {
     match underlying(of) {
         GoType::Basic(Basic::Integer(kind)) => Some(*kind),
@@ -50,7 +50,7 @@ pub(crate) fn int_kind(of: &GoType) -> Option<IntKind>
 /// Whether operators on integers are defined on a type.
 /// [Arithmetic operators](https://go.dev/ref/spec#Arithmetic_operators)
 pub fn is_integer(of: &GoType) -> bool
-    ensures { result ≡ is_integer (type_of of.now) }
+    ensures { result ≡ is_integer (go_type of.now) }
 {
     matches!(
         underlying(of),
@@ -61,7 +61,7 @@ pub fn is_integer(of: &GoType) -> bool
 /// Whether operators on strings are defined on a type.
 /// [String concatenation](https://go.dev/ref/spec#String_concatenation)
 pub fn is_string(of: &GoType) -> bool
-    ensures { result ≡ is_string (type_of of.now) }
+    ensures { result ≡ is_string (go_type of.now) }
 {
     matches!(
         underlying(of),
@@ -72,7 +72,7 @@ pub fn is_string(of: &GoType) -> bool
 /// Whether logical operators are defined on a type.
 /// [Logical operators](https://go.dev/ref/spec#Logical_operators)
 pub fn is_bool(of: &GoType) -> bool
-    ensures { result ≡ is_bool (type_of of.now) }
+    ensures { result ≡ is_bool (go_type of.now) }
 {
     matches!(
         underlying(of),
@@ -82,7 +82,7 @@ pub fn is_bool(of: &GoType) -> bool
 
 /// Whether values of a type have none yet.
 pub(crate) fn is_untyped(of: &GoType) -> bool
-    ensures { result ≡ is_untyped (type_of of.now) }
+    ensures { result ≡ is_untyped (go_type of.now) }
 {
     matches!(of, GoType::Basic(Basic::Untyped(_)))
 }
@@ -100,7 +100,7 @@ fn in_kind(kind: Option<IntKind>, constant: &Const) -> bool
 /// Whether a value of a kind that fits a type lies in it: one that isn't constant does.
 /// [Representability](https://go.dev/ref/spec#Representability)
 pub fn lies_in(of: &GoType, value: &TypedExpr) -> bool
-    ensures { result ≡ lies_in (type_of of.now) (expr_of value.now) }
+    ensures { result ≡ lies_in (go_type of.now) (as_expr value.now) }
 {
     match constant_in(value) {
         Some(constant) => in_kind(int_kind(of), constant),
@@ -111,15 +111,15 @@ pub fn lies_in(of: &GoType, value: &TypedExpr) -> bool
 /// Whether a value is constant.
 /// [Constant expressions](https://go.dev/ref/spec#Constant_expressions)
 pub fn is_constant(value: &TypedExpr) -> bool
-    ensures { result ≡ is_some (constant_in (expr_of value.now)) }
+    ensures { result ≡ is_some (constant_in (as_expr value.now)) }
 {
     constant_in(value).is_some()
 }
 
 /// The constant that a value is; else the value.
-#[tactic(auto, unfolding(go_typed::specs::Views::expr_of))]
+#[tactic(auto, unfolding(go_typed::specs::Views::as_expr))]
 pub(crate) fn take_constant(value: TypedExpr) -> Result<Const, TypedExpr>
-    ensures { IsTaken (expr_of value) result }
+    ensures { IsTaken (as_expr value) result }
 {
     let TypedExpr { of, kind } = value;
     match kind {
@@ -131,7 +131,7 @@ pub(crate) fn take_constant(value: TypedExpr) -> Result<Const, TypedExpr>
 /// A value as one of a type: a constant becomes one of that type, and another is converted, unless
 /// it has the type.
 pub fn as_type(alloc: Global, of: GoType, value: TypedExpr) -> Result<TypedExpr, AllocError>
-    ensures { IfOk result (λ e. expr_of e ≡ as_type (type_of of) (expr_of value)) }
+    ensures { IfOk result (λ e. as_expr e ≡ as_type (go_type of) (as_expr value)) }
 {
     match take_constant(value) {
         Ok(value) => Ok(constant(of, value)),
@@ -144,7 +144,7 @@ pub fn as_type(alloc: Global, of: GoType, value: TypedExpr) -> Result<TypedExpr,
 /// type, `Range` where it is a constant that lies outside.
 /// [Assignability](https://go.dev/ref/spec#Assignability)
 pub fn assigned(alloc: Global, of: GoType, value: TypedExpr) -> Result<TypedExpr, RuleError>
-    ensures { Gives expr_of result (assigned (type_of of) (expr_of value)) }
+    ensures { Gives as_expr result (assigned (go_type of) (as_expr value)) }
 {
     if !assignable(type_in(&value), &of) {
         return Err(RuleError::Broken(FaultKind::Assign));
@@ -157,7 +157,7 @@ pub fn assigned(alloc: Global, of: GoType, value: TypedExpr) -> Result<TypedExpr
 
 /// The type that values of a type take where none is due. An `Err` only where memory ran out.
 pub fn default_type(of: &GoType) -> Result<GoType, AllocError>
-    ensures { IfOk result (λ t. type_of t ≡ default_type (type_of of.now)) }
+    ensures { IfOk result (λ t. go_type t ≡ default_type (go_type of.now)) }
 {
     Ok(match of {
         GoType::Basic(Basic::Untyped(Untyped::Bool)) => GoType::Basic(Basic::Bool),
@@ -173,7 +173,7 @@ pub fn default_type(of: &GoType) -> Result<GoType, AllocError>
 /// A value as one of its type, where it has none of that which it takes where none is due. An `Err`
 /// only where memory ran out.
 pub(crate) fn settled(alloc: Global, value: TypedExpr) -> Result<TypedExpr, AllocError>
-    ensures { IfOk result (λ e. expr_of e ≡ settled (expr_of value)) }
+    ensures { IfOk result (λ e. as_expr e ≡ settled (as_expr value)) }
 {
     let of = default_type(type_in(&value))?;
     as_type(alloc, of, value)
@@ -182,7 +182,7 @@ pub(crate) fn settled(alloc: Global, value: TypedExpr) -> Result<TypedExpr, Allo
 /// A value as one of the type that it takes where none is due. `Range` where it is a constant that
 /// lies outside. [Constants](https://go.dev/ref/spec#Constants)
 pub fn defaulted(alloc: Global, value: TypedExpr) -> Result<TypedExpr, RuleError>
-    ensures { Gives expr_of result (defaulted (expr_of value)) }
+    ensures { Gives as_expr result (defaulted (as_expr value)) }
 {
     let of = default_type(type_in(&value))?;
     assigned(alloc, of, value)
@@ -191,7 +191,7 @@ pub fn defaulted(alloc: Global, value: TypedExpr) -> Result<TypedExpr, RuleError
 /// The type that a variable takes of its value, where the value lies in it. An `Err` only where
 /// memory ran out. [Variable declarations](https://go.dev/ref/spec#Variable_declarations)
 pub fn settled_type(value: &TypedExpr) -> Result<Option<GoType>, AllocError>
-    ensures { IfOk result (λ t. option_map type_of t ≡ settled_type (expr_of value.now)) }
+    ensures { IfOk result (λ t. option_map go_type t ≡ settled_type (as_expr value.now)) }
 {
     let of = default_type(type_in(value))?;
     if lies_in(&of, value) {
@@ -204,7 +204,7 @@ pub fn settled_type(value: &TypedExpr) -> Result<Option<GoType>, AllocError>
 /// A value where a condition is due. `Mismatch` where its underlying type isn't bool.
 /// [If statements](https://go.dev/ref/spec#If_statements)
 pub fn condition(alloc: Global, value: TypedExpr) -> Result<TypedExpr, RuleError>
-    ensures { Gives expr_of result (condition (expr_of value)) }
+    ensures { Gives as_expr result (condition (as_expr value)) }
 {
     if !is_bool(type_in(&value)) {
         return Err(RuleError::Broken(FaultKind::Mismatch));

@@ -15,7 +15,7 @@ use Rattle.go_meaning.specs.Choices.{binary_operators}
 use Rattle.go_typed.specs.declared.expression.Operator.TheVariants.{Comparison as comparison}
 use Rattle.go_typed.specs.declared.expression.TypedExpr.{TypedExpr}
 use Rattle.go_typed.specs.declared.statement.TypedClause.{TypedClause}
-use Rattle.go_typed.specs.Views.{expr_of, exprs_in, cases_of, clauses_in}
+use Rattle.go_typed.specs.Views.{as_expr, as_exprs, cases_of, clauses_in}
 use Rattle.go_gen.specs.Translation.{Places, expr_temps, case_temps, cases_temps, operators_code, load, expr_code, cases_code, case_code, tests_code}
 
 abbrev Code : Type 0
@@ -30,18 +30,18 @@ closed inner tc rest old c1 new x begin end test is l1 l2 l3 swap h =
     h ∙ ap (λ n. Go_to (Jump n) ∷ c1) k2
     ∙ ap (λ l. Go_to (Jump (length inner)) ∷ l) (g ∙ ap (λ n. (inner ++ tc) ++ Go_to (LoopIf n) ∷ rest) k1 ∙ append_assoc inner tc (Go_to (LoopIf (length inner + length tc + 1)) ∷ rest))
 
-pub cases_step : (p : Places symbols.Symbol) (at : ℕ) (t : Type') (far : ℕ) (es : List TypedExpr) (i : ℕ) (x : TypedExpr) (b0 b1 n end d passed count : ℕ) (j : Instr symbols.Symbol) (old c0 c1 c2 c3 c4 : Code) → drop (i - 1) es ≡ x ∷ drop i es → n ≡ expr_temps (expr_of x) → b1 + n ≡ b0 → c0 ≡ cases_code p at t b0 (exprs_in (drop i es)) far ++ old → end ≡ length old → d + end ≡ length c0 → passed ≡ d + far → c1 ≡ Go_to (JumpIf passed) ∷ c0 → c2 ≡ operators_code (binary_operators (underlying t) (comparison Equal)) ++ c1 → c3 ≡ expr_code p b1 (expr_of x) ++ c2 → count ≡ cells t → j ≡ load at count → c4 ≡ j ∷ c3 → c4 ≡ cases_code p at t b1 (exprs_in (drop (i - 1) es)) far ++ old
+pub cases_step : (p : Places symbols.Symbol) (at : ℕ) (t : Type') (far : ℕ) (es : List TypedExpr) (i : ℕ) (x : TypedExpr) (b0 b1 n end d passed count : ℕ) (j : Instr symbols.Symbol) (old c0 c1 c2 c3 c4 : Code) → drop (i - 1) es ≡ x ∷ drop i es → n ≡ expr_temps (as_expr x) → b1 + n ≡ b0 → c0 ≡ cases_code p at t b0 (as_exprs (drop i es)) far ++ old → end ≡ length old → d + end ≡ length c0 → passed ≡ d + far → c1 ≡ Go_to (JumpIf passed) ∷ c0 → c2 ≡ operators_code (binary_operators (underlying t) (comparison Equal)) ++ c1 → c3 ≡ expr_code p b1 (as_expr x) ++ c2 → count ≡ cells t → j ≡ load at count → c4 ≡ j ∷ c3 → c4 ≡ cases_code p at t b1 (as_exprs (drop (i - 1) es)) far ++ old
 cases_step p at t far es i x b0 b1 n end d passed count j old c0 c1 c2 c3 c4 is tm s m0 l1 l2 f m1 m2 m3 ct jl m4 =
-    let b : b0 ≡ b1 + expr_temps (expr_of x) = sym s ∙ ap (λ y. b1 + y) tm in
-    let rest : Code = cases_code p at t (b1 + expr_temps (expr_of x)) (exprs_in (drop i es)) far in
-    let first : Code = expr_code p b1 (expr_of x) in
+    let b : b0 ≡ b1 + expr_temps (as_expr x) = sym s ∙ ap (λ y. b1 + y) tm in
+    let rest : Code = cases_code p at t (b1 + expr_temps (as_expr x)) (as_exprs (drop i es)) far in
+    let first : Code = expr_code p b1 (as_expr x) in
     let ops : Code = operators_code (binary_operators (underlying t) (comparison Equal)) in
-    let g0 : c0 ≡ rest ++ old = m0 ∙ ap (λ y. cases_code p at t y (exprs_in (drop i es)) far ++ old) b in
+    let g0 : c0 ≡ rest ++ old = m0 ∙ ap (λ y. cases_code p at t y (as_exprs (drop i es)) far ++ old) b in
     let size : passed ≡ length rest + far = omega (arith, f, l1, l2, ap length g0, length-append rest old) in
-    let shape : load at (cells t) ∷ (first ++ (ops ++ (Go_to (JumpIf (length rest + far)) ∷ (rest ++ old)))) ≡ cases_code p at t b1 (exprs_in (x ∷ drop i es)) far ++ old = simp append_assoc in
+    let shape : load at (cells t) ∷ (first ++ (ops ++ (Go_to (JumpIf (length rest + far)) ∷ (rest ++ old)))) ≡ cases_code p at t b1 (as_exprs (x ∷ drop i es)) far ++ old = simp append_assoc in
     m4 ∙ ap (λ y. y ∷ c3) (jl ∙ ap (load at) ct)
     ∙ ap (λ l. load at (cells t) ∷ l) (m3 ∙ ap (λ l. first ++ l) (m2 ∙ ap (λ l. ops ++ l) (m1 ∙ ap (λ y. Go_to (JumpIf y) ∷ c0) size ∙ ap (λ l. Go_to (JumpIf (length rest + far)) ∷ l) g0)))
-    ∙ shape ∙ ap (λ l. cases_code p at t b1 (exprs_in l) far ++ old) (sym is)
+    ∙ shape ∙ ap (λ l. cases_code p at t b1 (as_exprs l) far ++ old) (sym is)
 
 pub tests_step : (p : Places symbols.Symbol) (at : ℕ) (t : Type') (cs : List TypedClause) (sizes : List ℕ) (i : ℕ) (x : TypedClause) (size b0 b1 n before before1 end d d1 far : ℕ) (old c0 c1 : Code) → drop (i - 1) cs ≡ x ∷ drop i cs → drop (i - 1) sizes ≡ size ∷ drop i sizes → n ≡ case_temps (cases_of x.cases) → b1 + n ≡ b0 → before1 + size ≡ before → c0 ≡ tests_code p at t b0 (clauses_in (drop i cs)) (drop i sizes) before ++ old → end ≡ length old → d + end ≡ length c0 → d1 ≡ d + 1 → far ≡ d1 + before1 → c1 ≡ case_code p at t b1 (cases_of x.cases) far ++ c0 → c1 ≡ tests_code p at t b1 (clauses_in (drop (i - 1) cs)) (drop (i - 1) sizes) before1 ++ old
 tests_step p at t cs sizes i x size b0 b1 n before before1 end d d1 far old c0 c1 is js tm s q m0 l1 l2 l3 l4 m1 =

@@ -4,11 +4,11 @@ use Rattle.go_code.specs.declared.instr.Instr.{Instr}
 use Rattle.go_symbol.specs.Symbols as symbols
 use Rattle.go_types.specs.declared.types.Field.{Field}
 use Rattle.go_types.specs.Types.{Type'}
-use Rattle.go_types.specs.Views.{type_of, fields_in}
+use Rattle.go_types.specs.Views.{go_type, fields_in}
 use Rattle.go_meaning.specs.Choices.{field_at}
 use Rattle.go_gen.specs.Translation.{Places, or_type, defines_code, sets_code}
 
-pub field_some : (fs : List Field) (n : ℕ) (other : Type') (d : Field) → n < length fs → type_of (get_or fs n d).of ≡ or_type other (field_at (fields_in fs) n)
+pub field_some : (fs : List Field) (n : ℕ) (other : Type') (d : Field) → n < length fs → go_type (get_or fs n d).of ≡ or_type other (field_at (fields_in fs) n)
 field_some [] n other d lt = absurd (omega arith)
 field_some (g ∷ fs) zero other d lt = refl
 field_some (g ∷ fs) (suc n) other d lt = field_some fs n other d (omega arith)

@@ -1,11 +1,11 @@
-pub mod Arms
-pub mod ByKind
-pub mod Closed
-pub mod Emitted
-pub mod Found
-pub mod Listed
-pub mod Made
-pub mod Offsets
-pub mod Reversed
-pub mod Sliced
-pub mod Totals
+mod Arms
+mod ByKind
+mod Closed
+mod Emitted
+mod Found
+mod Listed
+mod Made
+mod Offsets
+mod Reversed
+mod Sliced
+mod Totals

@@ -19,11 +19,11 @@ use Rattle.go_code.specs.declared.instr.CallInstr.TheVariants.{Call, Return}
 use Rattle.go_code.specs.declared.operator.Operator.TheVariants.{Compare, Text as On_text}
 use Rattle.go_code.specs.declared.operator.Operator as operators
 use Rattle.go_code.specs.declared.operator.TextOperator.TheVariants.{At}
-use Rattle.go_code.specs.Functions.{Function, Setup}
+use Rattle.go_code.specs.Functions.{FunctionCode, Setup}
 use Rattle.go_code.specs.Packages.{PackageVariable, PackageFunction, Object}
 use Rattle.go_typed.specs.declared.expression.Operator.TheVariants.{Arithmetic as arithmetic, Comparison as comparison}
 use Rattle.go_typed.specs.Trees as trees
-use Rattle.go_typed.specs.Trees.{Symbol, Expr, Exprs, no_exprs, some_exprs, Perhaps, absent, present, Parts, no_parts, part, Steps, here, to_field, to_element, Left, blank, of_local, of_global, of_slice, Source, each, results, zeros, Initialization, Stmt, Stmts, no_stmts, some_stmts, Clauses, no_clauses, clause, expr_type, Package}
+use Rattle.go_typed.specs.Trees.{Symbol, Expr, Exprs, no_exprs, some_exprs, Perhaps, absent, present, Parts, no_parts, part, Steps, here, to_field, to_element, Left, blank, of_local, of_global, of_slice, ValueSource, each, results, zeros, Initialization, Stmt, Stmts, no_stmts, some_stmts, Clauses, no_clauses, clause, expr_type, Package}
 use Rattle.go_init.specs.Variables.{variable_order}
 use Rattle.go_meaning.specs.Values.{flat, zero_cell, zero_of}
 use Rattle.go_meaning.specs.Choices.{cell_of, unary_operators, binary_operators, conversion_operators, length_operators, cut_operators, capacity_operators, field_type, element_type}
@@ -199,17 +199,17 @@ abbrev pub expr_counts : Exprs → List ℕ
 expr_counts no_exprs = []
 expr_counts (some_exprs e es) = cells (expr_type e) ∷ expr_counts es
 
-abbrev pub source_counts : Source → List ℕ
+abbrev pub source_counts : ValueSource → List ℕ
 source_counts (each es) = expr_counts es
 source_counts (results ts s es) = map cells ts
 source_counts (zeros ts) = map cells ts
 
-abbrev pub source_temps : Source → ℕ
+abbrev pub source_temps : ValueSource → ℕ
 source_temps (each es) = exprs_temps es
 source_temps (results ts s es) = exprs_temps es
 source_temps (zeros ts) = 0
 
-abbrev pub source_code : {R : Type 0} → Places R → ℕ → Source → List (Instr R)
+abbrev pub source_code : {R : Type 0} → Places R → ℕ → ValueSource → List (Instr R)
 source_code {R} p k (each es) = exprs_code p k es
 source_code {R} p k (results ts s es) = exprs_code p k es ++ By_call (Call (p.functions s)) ∷ []
 source_code {R} p k (zeros ts) = flat_map zero_code ts
@@ -245,10 +245,10 @@ abbrev pub address_code : {R : Type 0} → Type' → ℕ → Steps → List (Ins
 address_code {R} t k ss = In_frame (Push (Int (pos 0))) ∷ steps_code t k ss
 
 -- from a slice, which lies in a temporary, to an offset in its row: that of the element, and from there on to the part
-abbrev pub row_code : {R : Type 0} → Type' → ℕ → ℕ → Steps → List (Instr R)
-row_code {R} t at k (to_element e ss) =
+abbrev pub array_access_code : {R : Type 0} → Type' → ℕ → ℕ → Steps → List (Instr R)
+array_access_code {R} t at k (to_element e ss) =
     load at 1 ∷ load (k + expr_temps e) 1 ∷ On_part (Reach (element_cells (underlying t))) ∷ steps_code (or_type t (element_type (underlying t))) (k + expr_temps e + 1) ss
-row_code {R} t at k ss = []
+array_access_code {R} t at k ss = []
 
 abbrev pub left_temps : Left → ℕ
 left_temps blank = 0
@@ -267,14 +267,14 @@ abbrev pub take_code : {R : Type 0} → Places R → ℕ → Left → ℕ → Li
 take_code {R} p k blank n = []
 take_code {R} p k (of_local t v ss) n = address_code t k ss ++ On_cells (LoadAt (p.locals v) n) ∷ []
 take_code {R} p k (of_global t s ss) n = address_code t k ss ++ On_globals (LoadAt (p.globals s) n) ∷ []
-take_code {R} p k (of_slice t e ss) n = row_code t (k + expr_temps e) (k + expr_temps e + 1) ss ++ On_rows (GetAt n) ∷ []
+take_code {R} p k (of_slice t e ss) n = array_access_code t (k + expr_temps e) (k + expr_temps e + 1) ss ++ On_rows (GetAt n) ∷ []
 
 -- so many cells, which lie in a temporary, into the part that a left side names
 abbrev pub give_code : {R : Type 0} → Places R → ℕ → Left → ℕ → ℕ → List (Instr R)
 give_code {R} p k blank temp n = []
 give_code {R} p k (of_local t v ss) temp n = load temp n ∷ address_code t k ss ++ On_cells (StoreAt (p.locals v) n) ∷ []
 give_code {R} p k (of_global t s ss) temp n = load temp n ∷ address_code t k ss ++ On_globals (StoreAt (p.globals s) n) ∷ []
-give_code {R} p k (of_slice t e ss) temp n = load temp n ∷ row_code t (k + expr_temps e) (k + expr_temps e + 1) ss ++ On_rows (SetAt n) ∷ []
+give_code {R} p k (of_slice t e ss) temp n = load temp n ∷ array_access_code t (k + expr_temps e) (k + expr_temps e + 1) ss ++ On_rows (SetAt n) ∷ []
 
 abbrev pub lefts_temps : List Left → ℕ
 lefts_temps [] = 0
@@ -401,9 +401,9 @@ cases_code {R} p at t k (some_exprs e es) far =
     ++ Go_to (JumpIf (length rest + far)) ∷ rest
 
 -- codes side by side
-abbrev pub joined : {R : Type 0} → List (List (Instr R)) → List (Instr R)
-joined {R} [] = []
-joined {R} (x ∷ xs) = x ++ joined xs
+abbrev pub concat_code : {R : Type 0} → List (List (Instr R)) → List (Instr R)
+concat_code {R} [] = []
+concat_code {R} (x ∷ xs) = x ++ concat_code xs
 
 abbrev pub case_code : {R : Type 0} → Places R → ℕ → Type' → ℕ → Option Exprs → ℕ → List (Instr R)
 case_code {R} p at t k None far = []
@@ -465,7 +465,7 @@ abbrev mutual
       let bodies : ℕ = first + cases_temps cs in
       let codes : List (List (Instr R)) = bodies_code p bodies cs c in
       expr_code p k e ++ store at (cells (expr_type e)) ∷ tests_code p at (expr_type e) first cs (map length codes) 0
-      ++ Go_to (Jump (default_place cs (map length codes) 0 (length (joined codes)))) ∷ joined codes
+      ++ Go_to (Jump (default_place cs (map length codes) 0 (length (concat_code codes)))) ∷ concat_code codes
   stmt_code {R} p k (trees.block ss) b c = stmts_code p k ss b c
   stmt_code {R} p k trees.break b c = Go_to (Jump b) ∷ []
   stmt_code {R} p k trees.continue b c = Go_to (Jump c) ∷ []
@@ -482,8 +482,8 @@ abbrev mutual
   bodies_code {R} p k no_clauses c = []
   bodies_code {R} p k (clause es body falls cs) c =
       let rest : List (List (Instr R)) = bodies_code p (k + stmts_temps body) cs c in
-      let leave : List (Instr R) = leave_code falls (length (joined rest)) in
-      (stmts_code p k body (length leave + length (joined rest)) (length leave + length (joined rest) + c) ++ leave) ∷ rest
+      let leave : List (Instr R) = leave_code falls (length (concat_code rest)) in
+      (stmts_code p k body (length leave + length (concat_code rest)) (length leave + length (concat_code rest) + c) ++ leave) ∷ rest
 
 -- ---- functions and packages
 
@@ -496,7 +496,7 @@ abbrev pub local_types : trees.Function → List Type'
 local_types f = f.parameters ++ f.locals
 
 -- a function of a package, where variables and functions are known by these
-abbrev pub translated : {R : Type 0} → (Symbol → R) → (Symbol → R) → trees.Function → Function R
+abbrev pub translated : {R : Type 0} → (Symbol → R) → (Symbol → R) → trees.Function → FunctionCode R
 translated {R} globals functions f =
     let size : ℕ = total (local_types f) in
     let p : Places R = record { locals = slice_index (slots 0 (local_types f)); globals = globals; functions = functions } in
@@ -515,7 +515,7 @@ sets_code {R} p path (o ∷ os) [] = []
 sets_code {R} p path (o ∷ os) (n ∷ counts) = sets_code p path os counts ++ set_code p path o n ∷ []
 
 -- variables of the package at a path get their values
-abbrev pub setup_code : {R : Type 0} → Places R → List ℕ → Source → List (Option (List ℕ)) → List (Instr R)
+abbrev pub setup_code : {R : Type 0} → Places R → List ℕ → ValueSource → List (Option (List ℕ)) → List (Instr R)
 setup_code {R} p path s os = source_code p 0 s ++ (sets_code p path os (source_counts s) ++ By_call (Return 0) ∷ [])
 
 abbrev pub no_locals : {R : Type 0} → (Symbol → R) → (Symbol → R) → Places R

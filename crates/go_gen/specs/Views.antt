@@ -13,5 +13,5 @@ abbrev pub places_outside : Places symbols.Symbol
 places_outside = no_locals symbol_code symbol_code
 
 -- a blank variable has no name
-abbrev pub names_of : List (Option (String Global)) → List (Option (List ℕ))
-names_of variables = map (option_map string_bytes) variables
+abbrev pub variable_names : List (Option (String Global)) → List (Option (List ℕ))
+variable_names variables = map (option_map string_bytes) variables

@@ -1,11 +1,11 @@
 //! Variables that get values.
 ghost use Rattle.std.specs.Prelude.{◌≡◌, ◌+◌, [], ◌++◌, IfOk, OnOk, map, length};
 ghost use Rattle.go_types.specs.Relations.{underlying};
-ghost use Rattle.go_types.specs.Views.{type_of, fields_in};
+ghost use Rattle.go_types.specs.Views.{go_type, fields_in};
 ghost use Rattle.go_typed.specs.Trees as trees;
-ghost use Rattle.go_typed.specs.Views.{expr_of, steps_in, left_of, source_of};
+ghost use Rattle.go_typed.specs.Views.{as_expr, steps_in, left_of, as_source};
 ghost use Rattle.go_meaning.specs.Choices as choices;
-ghost use Rattle.go_gen.specs.Translation.{steps_temps, operands_code, or_type, elements_count, steps_code, address_code, row_code, left_temps, left_operands, take_code, give_code, lefts_temps, lefts_operands, value_temps, values_temps, keep_code, keeps_code, gives_code, define_code, defines_code, stmt_code};
+ghost use Rattle.go_gen.specs.Translation.{steps_temps, operands_code, or_type, elements_count, steps_code, address_code, array_access_code, left_temps, left_operands, take_code, give_code, lefts_temps, lefts_operands, value_temps, values_temps, keep_code, keeps_code, gives_code, define_code, defines_code, stmt_code};
 ghost use Rattle.go_gen.specs.Views.{places_of};
 
 use crate::code::Code;
@@ -63,7 +63,7 @@ fn emit_operands(
 
 /// The type of the field of a number; the other type where there is none.
 fn field_at<'a>(fields: &'a [Field], number: usize, other: &'a GoType) -> &'a GoType
-    ensures { type_of result.now ≡ or_type (type_of other.now) (choices.field_at (fields_in fields.now) number) }
+    ensures { go_type result.now ≡ or_type (go_type other.now) (choices.field_at (fields_in fields.now) number) }
 {
     if number < fields.len() {
         &fields[number].of
@@ -74,7 +74,7 @@ fn field_at<'a>(fields: &'a [Field], number: usize, other: &'a GoType) -> &'a Go
 
 /// The type of the field of a number; the type itself where there is none.
 fn field_type(of: &GoType, number: usize) -> &GoType
-    ensures { type_of result.now ≡ or_type (type_of of.now) (choices.field_type (underlying (type_of of.now)) number) }
+    ensures { go_type result.now ≡ or_type (go_type of.now) (choices.field_type (underlying (go_type of.now)) number) }
 {
     match underlying(of) {
         GoType::Struct(fields) => field_at(&fields.list, number, of),
@@ -85,8 +85,8 @@ fn field_type(of: &GoType, number: usize) -> &GoType
 /// How many elements values of a type have, and the type of these; 0 where it is no array, and the
 /// type itself where it has no elements.
 pub(crate) fn element_type(of: &GoType) -> (usize, &GoType)
-    ensures count { result.0 ≡ elements_count (underlying (type_of of.now)) }
-    ensures of { type_of result.1.now ≡ or_type (type_of of.now) (choices.element_type (underlying (type_of of.now))) }
+    ensures count { result.0 ≡ elements_count (underlying (go_type of.now)) }
+    ensures of { go_type result.1.now ≡ or_type (go_type of.now) (choices.element_type (underlying (go_type of.now))) }
 {
     match underlying(of) {
         GoType::Array(length, element) => (*length as usize, &element.of),
@@ -97,7 +97,7 @@ pub(crate) fn element_type(of: &GoType) -> (usize, &GoType)
 
 /// From an offset to that of the part, outermost first.
 fn emit_steps(code: &mut Code, steps: &[TypedStep], of: &GoType, k: usize) -> Result<(), AllocError>
-    ensures { OnOk result (code.new ≡ steps_code (type_of of.now) k (steps_in steps.now) ++ code.old) }
+    ensures { OnOk result (code.new ≡ steps_code (go_type of.now) k (steps_in steps.now) ++ code.old) }
 {
     match steps {
         [] => Ok(()),
@@ -123,7 +123,7 @@ fn emit_address(
     k: usize,
     steps: &[TypedStep],
 ) -> Result<(), AllocError>
-    ensures { OnOk result (code.new ≡ address_code (type_of of.now) k (steps_in steps.now) ++ code.old) }
+    ensures { OnOk result (code.new ≡ address_code (go_type of.now) k (steps_in steps.now) ++ code.old) }
 {
     emit_steps(code, steps, of, k)?;
     code.put(Instr::Frame(FrameInstr::Push(Cell::Int(0))))
@@ -137,7 +137,7 @@ fn emit_row(
     k: usize,
     steps: &[TypedStep],
 ) -> Result<(), AllocError>
-    ensures { OnOk result (code.new ≡ row_code (type_of of.now) temp k (steps_in steps.now) ++ code.old) }
+    ensures { OnOk result (code.new ≡ array_access_code (go_type of.now) temp k (steps_in steps.now) ++ code.old) }
 {
     match steps {
         [TypedStep::Element(e), rest @ ..] => {
@@ -163,7 +163,7 @@ fn emit_slice_operands(
     steps: &[TypedStep],
     of: &GoType,
 ) -> Result<(), AllocError>
-    ensures { OnOk result (code.new ≡ left_operands (places_of layout.now) k (trees.of_slice (type_of of.now) (expr_of e.now) (steps_in steps.now)) ++ code.old) }
+    ensures { OnOk result (code.new ≡ left_operands (places_of layout.now) k (trees.of_slice (go_type of.now) (as_expr e.now) (steps_in steps.now)) ++ code.old) }
 {
     let _of = of;
     let temp = sum(k, expr_temps(e)?)?;
@@ -390,7 +390,7 @@ pub(crate) fn emit_assign(
     lefts: &[TypedLeft],
     source: &TypedSource,
 ) -> Result<(), AllocError>
-    ensures { OnOk result (code.new ≡ stmt_code (places_of layout.now) k (trees.assign (map left_of lefts.now) (source_of source.now)) 0 0 ++ code.old) }
+    ensures { OnOk result (code.new ≡ stmt_code (places_of layout.now) k (trees.assign (map left_of lefts.now) (as_source source.now)) 0 0 ++ code.old) }
 {
     let counts = source_counts(alloc, source)?;
     if counts.len() != lefts.len() {
@@ -416,7 +416,7 @@ pub(crate) fn emit_update(
     e: &TypedExpr,
 ) -> Result<(), AllocError>
     ensures { OnOk result (code.new
-        ≡ stmt_code (places_of layout.now) k (trees.update (type_of of.now) (left_of left.now) operator (expr_of e.now)) 0 0 ++ code.old) }
+        ≡ stmt_code (places_of layout.now) k (trees.update (go_type of.now) (left_of left.now) operator (as_expr e.now)) 0 0 ++ code.old) }
 {
     let count = cells(of)?;
     let value = sum(k, left_temps(left)?)?;
@@ -468,7 +468,7 @@ pub(crate) fn emit_define(
     names: &[Option<usize>],
     source: &TypedSource,
 ) -> Result<(), AllocError>
-    ensures { OnOk result (code.new ≡ stmt_code (places_of layout.now) k (trees.define names.now (source_of source.now)) 0 0 ++ code.old) }
+    ensures { OnOk result (code.new ≡ stmt_code (places_of layout.now) k (trees.define names.now (as_source source.now)) 0 0 ++ code.old) }
 {
     let counts = source_counts(alloc, source)?;
     emit_defines(code, layout, names, &counts)?;

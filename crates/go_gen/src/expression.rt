@@ -10,10 +10,10 @@ ghost use Rattle.go_types.specs.Types.{basic as simple};
 ghost use Rattle.go_code.specs.declared.instr.PartInstr.TheVariants.{Part};
 ghost use Rattle.go_code.specs.declared.instr.RowInstr.TheVariants.{Make, Append};
 ghost use Rattle.go_code.specs.declared.instr.JumpInstr.TheVariants.{Jump};
-ghost use Rattle.go_types.specs.Views.{type_of, fields_in};
+ghost use Rattle.go_types.specs.Views.{go_type, fields_in};
 ghost use Rattle.go_types.specs.Relations.{underlying};
 ghost use Rattle.go_typed.specs.Trees as trees;
-ghost use Rattle.go_typed.specs.Views.{expr_of, exprs_in, parts_in};
+ghost use Rattle.go_typed.specs.Views.{as_expr, as_exprs, parts_in};
 ghost use Rattle.go_gen.specs.Translation.{zero_code, zeros_code, index_code, operators_code, load, store, or_type, element_cells, offset, expr_code, exprs_code, parts_code};
 ghost use Rattle.go_gen.specs.Views.{places_of};
 
@@ -53,7 +53,7 @@ fn put_no_slice(code: &mut Code) -> Result<(), AllocError>
 /// What repeats an element of a type.
 #[inline(never)]
 fn put_repeat(code: &mut Code, of: &GoType, length: u32) -> Result<(), AllocError>
-    ensures { OnOk result (code.new ≡ In_frame (Repeat (cells (type_of of.now)) length) ∷ code.old) }
+    ensures { OnOk result (code.new ≡ In_frame (Repeat (cells (go_type of.now)) length) ∷ code.old) }
 {
     let (count, times) = (cells(of)?, length as usize);
     code.put(Instr::Frame(FrameInstr::Repeat { count, times }))
@@ -63,7 +63,7 @@ fn put_repeat(code: &mut Code, of: &GoType, length: u32) -> Result<(), AllocErro
 /// [The zero value](https://go.dev/ref/spec#The_zero_value)
 #[cycle(zeros)]
 pub(crate) fn emit_zero(alloc: Global, code: &mut Code, of: &GoType) -> Result<(), AllocError>
-    ensures { OnOk result (code.new ≡ zero_code (type_of of.now) ++ code.old) }
+    ensures { OnOk result (code.new ≡ zero_code (go_type of.now) ++ code.old) }
 {
     match of {
         GoType::Basic(basic) => put_zero(alloc, code, *basic),
@@ -90,7 +90,7 @@ fn emit_zeros(alloc: Global, code: &mut Code, fields: &[Field]) -> Result<(), Al
 
 /// What leaves an element of an array or a slice, or a byte of a string, of a type in the end.
 fn put_index(code: &mut Code, of: &GoType) -> Result<(), AllocError>
-    ensures { OnOk result (code.new ≡ index_code (type_of of.now) ++ code.old) }
+    ensures { OnOk result (code.new ≡ index_code (go_type of.now) ++ code.old) }
 {
     match of {
         GoType::Array(length, element) => {
@@ -104,7 +104,7 @@ fn put_index(code: &mut Code, of: &GoType) -> Result<(), AllocError>
 
 /// What leaves the length of a slice or a string of a type.
 fn put_length(code: &mut Code, of: &GoType) -> Result<(), AllocError>
-    ensures { OnOk result (code.new ≡ operators_code (length_operators (type_of of.now)) ++ code.old) }
+    ensures { OnOk result (code.new ≡ operators_code (length_operators (go_type of.now)) ++ code.old) }
 {
     match of {
         GoType::Slice(_) => put_operator(code, CellOperator::Slice(SliceOperator::Length)),
@@ -114,7 +114,7 @@ fn put_length(code: &mut Code, of: &GoType) -> Result<(), AllocError>
 
 /// What leaves a part of a slice or a string of a type.
 fn put_cut(code: &mut Code, of: &GoType) -> Result<(), AllocError>
-    ensures { OnOk result (code.new ≡ operators_code (cut_operators (type_of of.now)) ++ code.old) }
+    ensures { OnOk result (code.new ≡ operators_code (cut_operators (go_type of.now)) ++ code.old) }
 {
     match of {
         GoType::Slice(_) => put_operator(code, CellOperator::Slice(SliceOperator::Cut)),
@@ -126,7 +126,7 @@ fn put_cut(code: &mut Code, of: &GoType) -> Result<(), AllocError>
 /// [Slice expressions](https://go.dev/ref/spec#Slice_expressions)
 fn put_tail(code: &mut Code, of: &GoType, temp: usize) -> Result<(), AllocError>
     ensures { OnOk result (code.new
-        ≡ load temp 1 ∷ (operators_code (length_operators (type_of of.now)) ++ (operators_code (cut_operators (type_of of.now)) ++ code.old))) }
+        ≡ load temp 1 ∷ (operators_code (length_operators (go_type of.now)) ++ (operators_code (cut_operators (go_type of.now)) ++ code.old))) }
 {
     put_cut(code, of)?;
     put_length(code, of)?;
@@ -143,14 +143,14 @@ fn put_kept(code: &mut Code, temp: usize) -> Result<(), AllocError>
 
 /// What makes a slice of a type.
 fn put_make(code: &mut Code, of: &GoType) -> Result<(), AllocError>
-    ensures { OnOk result (code.new ≡ On_rows (Make (element_cells (underlying (type_of of.now)))) ∷ code.old) }
+    ensures { OnOk result (code.new ≡ On_rows (Make (element_cells (underlying (go_type of.now)))) ∷ code.old) }
 {
     code.put(Instr::Row(RowInstr::Make(element_cells(of)?)))
 }
 
 /// The zero value of the elements of a type.
 fn emit_element_zero(alloc: Global, code: &mut Code, of: &GoType) -> Result<(), AllocError>
-    ensures { OnOk result (code.new ≡ zero_code (or_type (type_of of.now) (choices.element_type (underlying (type_of of.now)))) ++ code.old) }
+    ensures { OnOk result (code.new ≡ zero_code (or_type (go_type of.now) (choices.element_type (underlying (go_type of.now)))) ++ code.old) }
 {
     let (_, element) = element_type(of);
     emit_zero(alloc, code, element)
@@ -159,7 +159,7 @@ fn emit_element_zero(alloc: Global, code: &mut Code, of: &GoType) -> Result<(), 
 /// What appends as many elements as there are expressions to a slice of a type.
 /// [Appending](https://go.dev/ref/spec#Appending_and_copying_slices)
 fn put_append(code: &mut Code, of: &GoType, es: &[TypedExpr]) -> Result<(), AllocError>
-    ensures { OnOk result (code.new ≡ On_rows (Append (element_cells (underlying (type_of of.now))) (length es.now)) ∷ code.old) }
+    ensures { OnOk result (code.new ≡ On_rows (Append (element_cells (underlying (go_type of.now))) (length es.now)) ∷ code.old) }
 {
     let (size, count) = (element_cells(of)?, es.len());
     code.put(Instr::Row(RowInstr::Append { size, count }))
@@ -173,7 +173,7 @@ fn emit_global(
     of: &GoType,
     symbol: &Symbol,
 ) -> Result<(), AllocError>
-    ensures { OnOk result (code.new ≡ expr_code (places_of layout.now) k (trees.global (type_of of.now) symbol.now) ++ code.old) }
+    ensures { OnOk result (code.new ≡ expr_code (places_of layout.now) k (trees.global (go_type of.now) symbol.now) ++ code.old) }
 {
     let (first, count) = (symbol.copy()?, cells(of)?);
     code.put(Instr::Global(AccessInstr::Load { first, count }))
@@ -182,7 +182,7 @@ fn emit_global(
 /// What leaves a field of a struct of a type.
 fn put_field(code: &mut Code, whole: &GoType, number: usize, of: &GoType) -> Result<(), AllocError>
     ensures { OnOk result (code.new
-        ≡ On_part (Part (cells (type_of whole.now)) (offset (underlying (type_of whole.now)) number) (cells (type_of of.now))) ∷ code.old) }
+        ≡ On_part (Part (cells (go_type whole.now)) (offset (underlying (go_type whole.now)) number) (cells (go_type of.now))) ∷ code.old) }
 {
     let first = offset(underlying(whole), number)?;
     let (whole, count) = (cells(whole)?, cells(of)?);
@@ -212,7 +212,7 @@ fn emit_parts(
     of: &GoType,
     at: usize,
 ) -> Result<(), AllocError>
-    ensures { OnOk result (code.new ≡ parts_code (places_of layout.now) (type_of of.now) at k (parts_in parts.now) ++ code.old) }
+    ensures { OnOk result (code.new ≡ parts_code (places_of layout.now) (go_type of.now) at k (parts_in parts.now) ++ code.old) }
 {
     let offsets = offsets_of(alloc, of)?;
     let mut behind = sum(k, parts_temps(parts)?)?;
@@ -236,7 +236,7 @@ pub(crate) fn emit_exprs(
     k: usize,
     es: &[TypedExpr],
 ) -> Result<(), AllocError>
-    ensures { OnOk result (code.new ≡ exprs_code (places_of layout.now) k (exprs_in es.now) ++ code.old) }
+    ensures { OnOk result (code.new ≡ exprs_code (places_of layout.now) k (as_exprs es.now) ++ code.old) }
 {
     let mut behind = sum(k, exprs_temps(es)?)?;
     for i in (0..es.len()).rev() {
@@ -257,7 +257,7 @@ fn emit_length(
     operand: &TypedExpr,
     of: &GoType,
 ) -> Result<(), AllocError>
-    ensures { OnOk result (code.new ≡ expr_code (places_of layout.now) k (trees.length (type_of of.now) (expr_of operand.now)) ++ code.old) }
+    ensures { OnOk result (code.new ≡ expr_code (places_of layout.now) k (trees.length (go_type of.now) (as_expr operand.now)) ++ code.old) }
 {
     put_length(code, underlying(&operand.of))?;
     emit_expr(alloc, code, layout, k, operand)
@@ -274,7 +274,7 @@ fn emit_make(
     length: &TypedExpr,
     of: &GoType,
 ) -> Result<(), AllocError>
-    ensures { OnOk result (code.new ≡ expr_code (places_of layout.now) k (trees.make (type_of of.now) (expr_of length.now) trees.absent) ++ code.old) }
+    ensures { OnOk result (code.new ≡ expr_code (places_of layout.now) k (trees.make (go_type of.now) (as_expr length.now) trees.absent) ++ code.old) }
 {
     let temp = cell_behind(k, length)?;
     let (_, element) = element_type(of);
@@ -296,7 +296,7 @@ fn emit_elements(
     es: &[TypedExpr],
     of: &GoType,
 ) -> Result<(), AllocError>
-    ensures { OnOk result (code.new ≡ expr_code (places_of layout.now) k (trees.append (type_of of.now) trees.absent (exprs_in es.now)) ++ code.old) }
+    ensures { OnOk result (code.new ≡ expr_code (places_of layout.now) k (trees.append (go_type of.now) trees.absent (as_exprs es.now)) ++ code.old) }
 {
     put_append(code, of, es)?;
     emit_exprs(alloc, code, layout, k, es)?;
@@ -305,7 +305,7 @@ fn emit_elements(
 
 /// An expression; `k` is the number of the first cell for its temporaries.
 #[cycle(expressions)]
-#[tactic(auto, unfolding(go_typed::specs::Views::expr_of))]
+#[tactic(auto, unfolding(go_typed::specs::Views::as_expr))]
 pub(crate) fn emit_expr(
     alloc: Global,
     code: &mut Code,
@@ -313,7 +313,7 @@ pub(crate) fn emit_expr(
     k: usize,
     e: &TypedExpr,
 ) -> Result<(), AllocError>
-    ensures { OnOk result (code.new ≡ expr_code (places_of layout.now) k (expr_of e.now) ++ code.old) }
+    ensures { OnOk result (code.new ≡ expr_code (places_of layout.now) k (as_expr e.now) ++ code.old) }
 {
     match &e.kind {
         TypedExprKind::Constant(constant) => {

@@ -1,7 +1,7 @@
 //! The object of a checked package.
 ghost use Rattle.std.specs.Prelude.{◌≡◌, IfOk, map, slice_get};
 ghost use Rattle.std.specs.List.{filter_map};
-ghost use Rattle.go_typed.specs.Views.{stmts_in, variable_of, function_of, typed_of};
+ghost use Rattle.go_typed.specs.Views.{stmts_in, variable_of, as_function, typed_of};
 ghost use Rattle.go_gen.specs.Translation.{body_code, translated_variable, translated_function, object_in};
 ghost use Rattle.go_gen.specs.Views.{places_of};
 
@@ -40,7 +40,7 @@ fn generate_body(
 /// The code of a function, which doesn't know its name. The parameters come first, then the other
 /// local variables by their numbers, then the temporaries.
 fn translate(alloc: Global, function: &TypedFunction) -> Result<Function<Symbol>, AllocError>
-    ensures { IfOk result (λ made. made ≡ (translated_function (function_of function.now)).function) }
+    ensures { IfOk result (λ made. made ≡ (translated_function (as_function function.now)).function) }
 {
     let mut slots = Vec::new(alloc);
     let parameters = push_slots(&mut slots, 0, &function.parameters)?;
@@ -53,7 +53,7 @@ fn translate(alloc: Global, function: &TypedFunction) -> Result<Function<Symbol>
 
 /// A function of a package's object.
 fn generate_function(alloc: Global, function: &TypedFunction) -> Result<PackageFunction, AllocError>
-    ensures { IfOk result (λ made. made ≡ translated_function (function_of function.now)) }
+    ensures { IfOk result (λ made. made ≡ translated_function (as_function function.now)) }
 {
     let translated = translate(alloc, function)?;
     let name = function.name.clone()?;
@@ -65,7 +65,7 @@ fn generate_functions(
     alloc: Global,
     functions: &[TypedFunction],
 ) -> Result<Vec<PackageFunction>, AllocError>
-    ensures { IfOk result (λ made. made.items ≡ map translated_function (map function_of functions.now)) }
+    ensures { IfOk result (λ made. made.items ≡ map translated_function (map as_function functions.now)) }
 {
     let mut made = Vec::with_capacity(alloc, functions.len())?;
     for function in functions {

@@ -1,5 +1,5 @@
 //! Where variables lie.
-ghost use Rattle.std.specs.Prelude.{◌≡◌, slice_index};
+ghost use Rattle.std.specs.Prelude.{◌≡◌};
 ghost use Rattle.go_gen.specs.Views.{places_of};
 
 /// Where local variables lie, by the number of their first cell.

@@ -1,6 +1,6 @@
 //! Operators.
 ghost use Rattle.std.specs.Prelude.{◌≡◌, [], ◌∷◌, ◌++◌, OnOk};
-ghost use Rattle.go_types.specs.Views.{type_of};
+ghost use Rattle.go_types.specs.Views.{go_type};
 ghost use Rattle.go_types.specs.Relations.{underlying};
 ghost use Rattle.go_meaning.specs.Choices.{unary_operators, binary_operators, conversion_operators};
 ghost use Rattle.go_typed.specs.declared.expression.Operator.TheVariants.{Comparison};
@@ -30,7 +30,7 @@ pub(crate) fn put_unary(
     of: &GoType,
     operator: UnaryOperator,
 ) -> Result<(), AllocError>
-    ensures { OnOk result (code.new ≡ operators_code (unary_operators (underlying (type_of of.now)) operator) ++ code.old) }
+    ensures { OnOk result (code.new ≡ operators_code (unary_operators (underlying (go_type of.now)) operator) ++ code.old) }
 {
     match (underlying(of), operator) {
         (_, UnaryOperator::Negation) => put_operator(code, on_cells::Operator::Not),
@@ -50,7 +50,7 @@ fn put_comparison(
     of: &GoType,
     operator: ComparisonOperator,
 ) -> Result<(), AllocError>
-    ensures { OnOk result (code.new ≡ operators_code (binary_operators (type_of of.now) (Comparison operator)) ++ code.old) }
+    ensures { OnOk result (code.new ≡ operators_code (binary_operators (go_type of.now) (Comparison operator)) ++ code.old) }
 {
     match operator {
         ComparisonOperator::Equal => put_operator(code, on_cells::Operator::Equal(cells(of)?)),
@@ -64,7 +64,7 @@ fn put_comparison(
 
 /// Puts the operator between operands of a type before a code.
 pub(crate) fn put_binary(code: &mut Code, of: &GoType, operator: Operator) -> Result<(), AllocError>
-    ensures { OnOk result (code.new ≡ operators_code (binary_operators (underlying (type_of of.now)) operator) ++ code.old) }
+    ensures { OnOk result (code.new ≡ operators_code (binary_operators (underlying (go_type of.now)) operator) ++ code.old) }
 {
     match (underlying(of), operator) {
         (of, Operator::Comparison(operator)) => put_comparison(code, of, operator),
@@ -83,7 +83,7 @@ pub(crate) fn put_binary(code: &mut Code, of: &GoType, operator: Operator) -> Re
 
 /// Puts the conversion to a type before a code.
 pub(crate) fn put_conversion(code: &mut Code, of: &GoType) -> Result<(), AllocError>
-    ensures { OnOk result (code.new ≡ operators_code (conversion_operators (underlying (type_of of.now))) ++ code.old) }
+    ensures { OnOk result (code.new ≡ operators_code (conversion_operators (underlying (go_type of.now))) ++ code.old) }
 {
     match underlying(of) {
         GoType::Basic(Basic::Integer(integer)) => {

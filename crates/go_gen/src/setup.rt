@@ -1,9 +1,9 @@
 //! Setups: package variables get their values.
 ghost use Rattle.std.specs.Prelude.{◌≡◌, ◌++◌, IfOk, OnOk, map, option_map, slice_get, string_bytes};
 ghost use Rattle.std.specs.List.{filter_map};
-ghost use Rattle.go_typed.specs.Views.{initialization_of, source_of};
+ghost use Rattle.go_typed.specs.Views.{initialization_of, as_source};
 ghost use Rattle.go_gen.specs.Translation.{set_code, sets_code, setup_code, symbol_code, translated_setup};
-ghost use Rattle.go_gen.specs.Views.{places_outside, names_of};
+ghost use Rattle.go_gen.specs.Views.{places_outside, variable_names};
 
 use crate::code::Code;
 use crate::layout::Layout;
@@ -41,7 +41,7 @@ fn emit_sets(
     variables: &[Option<String>],
     counts: &[usize],
 ) -> Result<(), AllocError>
-    ensures { OnOk result (code.new ≡ sets_code places_outside path.now (names_of variables.now) counts.now ++ code.old) }
+    ensures { OnOk result (code.new ≡ sets_code places_outside path.now (variable_names variables.now) counts.now ++ code.old) }
 {
     let mut rest = counts;
     for variable in variables {
@@ -62,7 +62,7 @@ fn generate_code(
     source: &TypedSource,
     variables: &[Option<String>],
 ) -> Result<Vec<Instr<Symbol>>, AllocError>
-    ensures { IfOk result (λ code. code.items ≡ setup_code places_outside path.now (source_of source.now) (names_of variables.now)) }
+    ensures { IfOk result (λ code. code.items ≡ setup_code places_outside path.now (as_source source.now) (variable_names variables.now)) }
 {
     let layout = Layout { slots: &[] };
     let counts = source_counts(alloc, source)?;

@@ -1,7 +1,7 @@
 //! How many cells values have. Numbers that are none, since they are too great, are answered as
 //! want of memory: no memory has so many cells.
 ghost use Rattle.std.specs.Prelude.{◌≡◌, ◌+◌, ◌*◌, ◌++◌, IfOk, map, OnOk};
-ghost use Rattle.go_types.specs.Views.{type_of, fields_in};
+ghost use Rattle.go_types.specs.Views.{go_type, fields_in};
 ghost use Rattle.go_types.specs.Sizes as sizes;
 ghost use Rattle.go_types.specs.Relations.{underlying};
 ghost use Rattle.go_types.specs.Types.{struct};
@@ -34,7 +34,7 @@ pub(crate) fn product(a: usize, b: usize) -> Result<usize, AllocError>
 
 /// How many cells a value of a type has.
 pub(crate) fn cells(of: &GoType) -> Result<usize, AllocError>
-    ensures { IfOk result (λ n. n ≡ sizes.cells (type_of of.now)) }
+    ensures { IfOk result (λ n. n ≡ sizes.cells (go_type of.now)) }
 {
     match go_types::sizes::cells(of) {
         Ok(count) => Ok(count as usize),
@@ -44,7 +44,7 @@ pub(crate) fn cells(of: &GoType) -> Result<usize, AllocError>
 
 /// How many cells values of some types have.
 pub(crate) fn total(types: &[GoType]) -> Result<usize, AllocError>
-    ensures { IfOk result (λ n. n ≡ total (map type_of types.now)) }
+    ensures { IfOk result (λ n. n ≡ total (map go_type types.now)) }
 {
     let mut count = 0;
     for of in types {
@@ -59,8 +59,8 @@ pub(crate) fn push_slots(
     first: usize,
     types: &[GoType],
 ) -> Result<usize, AllocError>
-    ensures slots { OnOk result (found.new.items ≡ found.old.items ++ slots first (map type_of types.now)) }
-    ensures total { IfOk result (λ n. n ≡ first + total (map type_of types.now)) }
+    ensures slots { OnOk result (found.new.items ≡ found.old.items ++ slots first (map go_type types.now)) }
+    ensures total { IfOk result (λ n. n ≡ first + total (map go_type types.now)) }
 {
     let mut at = first;
     for of in types {
@@ -72,7 +72,7 @@ pub(crate) fn push_slots(
 
 /// How many cells an element of an array or a slice has. Of another value none.
 pub(crate) fn element_cells(of: &GoType) -> Result<usize, AllocError>
-    ensures { IfOk result (λ n. n ≡ element_cells (underlying (type_of of.now))) }
+    ensures { IfOk result (λ n. n ≡ element_cells (underlying (go_type of.now))) }
 {
     match underlying(of) {
         GoType::Array(_, element) => cells(&element.of),
@@ -99,7 +99,7 @@ fn field_offset(fields: &[Field], number: usize) -> Result<usize, AllocError>
 
 /// How many cells of an array or a struct lie before the part of a number. Of another value none.
 pub(crate) fn offset(of: &GoType, number: usize) -> Result<usize, AllocError>
-    ensures { IfOk result (λ n. n ≡ offset (type_of of.now) number) }
+    ensures { IfOk result (λ n. n ≡ offset (go_type of.now) number) }
 {
     match of {
         GoType::Struct(fields) => field_offset(&fields.list, number),
@@ -110,7 +110,7 @@ pub(crate) fn offset(of: &GoType, number: usize) -> Result<usize, AllocError>
 
 /// How many cells of a struct lie before each field. Of another value no part is told.
 pub(crate) fn offsets_of(alloc: Global, of: &GoType) -> Result<Vec<usize>, AllocError>
-    ensures { IfOk result (λ offsets. AreOffsets (type_of of.now) offsets.items) }
+    ensures { IfOk result (λ offsets. AreOffsets (go_type of.now) offsets.items) }
 {
     match of {
         GoType::Struct(fields) => field_offsets(alloc, &fields.list),
@@ -134,8 +134,8 @@ fn field_offsets(alloc: Global, fields: &[Field]) -> Result<Vec<usize>, AllocErr
 /// How many cells of an array or a struct lie before the part of a number, where those before some
 /// are known. Of another value none.
 pub(crate) fn offset_by(offsets: &[usize], of: &GoType, number: usize) -> Result<usize, AllocError>
-    requires { AreOffsets (type_of of.now) offsets.now }
-    ensures { IfOk result (λ n. n ≡ offset (type_of of.now) number) }
+    requires { AreOffsets (go_type of.now) offsets.now }
+    ensures { IfOk result (λ n. n ≡ offset (go_type of.now) number) }
 {
     match offsets.get(number) {
         Some(before) => Ok(*before),

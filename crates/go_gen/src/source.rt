@@ -2,9 +2,9 @@
 ghost use Rattle.std.specs.Prelude.{◌≡◌, ◌++◌, IfOk, OnOk, map, sum};
 ghost use Rattle.std.specs.List.{flat_map};
 ghost use Rattle.go_types.specs.Sizes as sizes;
-ghost use Rattle.go_types.specs.Views.{type_of};
+ghost use Rattle.go_types.specs.Views.{go_type};
 ghost use Rattle.go_typed.specs.Trees.{expr_type};
-ghost use Rattle.go_typed.specs.Views.{expr_of, exprs_in, source_of};
+ghost use Rattle.go_typed.specs.Views.{as_expr, as_exprs, as_source};
 ghost use Rattle.go_gen.specs.Translation.{expr_counts, source_counts, source_temps, source_code, zero_code};
 ghost use Rattle.go_gen.specs.Views.{places_of};
 
@@ -33,7 +33,7 @@ pub(crate) fn total(counts: &[usize]) -> Result<usize, AllocError>
 
 /// How many cells values of some types have, each for itself.
 pub(crate) fn type_counts(alloc: Global, types: &[GoType]) -> Result<Vec<usize>, AllocError>
-    ensures { IfOk result (λ counts. counts.items ≡ map sizes.cells (map type_of types.now)) }
+    ensures { IfOk result (λ counts. counts.items ≡ map sizes.cells (map go_type types.now)) }
 {
     let mut counts = Vec::with_capacity(alloc, types.len())?;
     for of in types {
@@ -45,14 +45,14 @@ pub(crate) fn type_counts(alloc: Global, types: &[GoType]) -> Result<Vec<usize>,
 /// How many cells the value of an expression has.
 #[tactic(auto, using(go_typed::proofs::Rows::type_seen))]
 pub(crate) fn expr_cells(e: &TypedExpr) -> Result<usize, AllocError>
-    ensures { IfOk result (λ n. n ≡ sizes.cells (expr_type (expr_of e.now))) }
+    ensures { IfOk result (λ n. n ≡ sizes.cells (expr_type (as_expr e.now))) }
 {
     cells(&e.of)
 }
 
 /// How many cells the values of some expressions have, each for itself.
 pub(crate) fn expr_counts(alloc: Global, es: &[TypedExpr]) -> Result<Vec<usize>, AllocError>
-    ensures { IfOk result (λ counts. counts.items ≡ expr_counts (exprs_in es.now)) }
+    ensures { IfOk result (λ counts. counts.items ≡ expr_counts (as_exprs es.now)) }
 {
     let mut counts = Vec::with_capacity(alloc, es.len())?;
     for e in es {
@@ -63,7 +63,7 @@ pub(crate) fn expr_counts(alloc: Global, es: &[TypedExpr]) -> Result<Vec<usize>,
 
 /// How many cells the values have, each for itself.
 pub(crate) fn source_counts(alloc: Global, source: &TypedSource) -> Result<Vec<usize>, AllocError>
-    ensures { IfOk result (λ counts. counts.items ≡ source_counts (source_of source.now)) }
+    ensures { IfOk result (λ counts. counts.items ≡ source_counts (as_source source.now)) }
 {
     match source {
         TypedSource::Each(es) => expr_counts(alloc, es),
@@ -74,7 +74,7 @@ pub(crate) fn source_counts(alloc: Global, source: &TypedSource) -> Result<Vec<u
 
 /// How many cells the temporaries take.
 pub(crate) fn source_temps(source: &TypedSource) -> Result<usize, AllocError>
-    ensures { IfOk result (λ n. n ≡ source_temps (source_of source.now)) }
+    ensures { IfOk result (λ n. n ≡ source_temps (as_source source.now)) }
 {
     match source {
         TypedSource::Each(es) => exprs_temps(es),
@@ -85,7 +85,7 @@ pub(crate) fn source_temps(source: &TypedSource) -> Result<usize, AllocError>
 
 /// The zero values of some types.
 fn emit_zeros(alloc: Global, code: &mut Code, types: &[GoType]) -> Result<(), AllocError>
-    ensures { OnOk result (code.new ≡ flat_map zero_code (map type_of types.now) ++ code.old) }
+    ensures { OnOk result (code.new ≡ flat_map zero_code (map go_type types.now) ++ code.old) }
 {
     for i in (0..types.len()).rev() {
         emit_zero(alloc, code, &types[i])?;
@@ -101,7 +101,7 @@ pub(crate) fn emit_source(
     k: usize,
     source: &TypedSource,
 ) -> Result<(), AllocError>
-    ensures { OnOk result (code.new ≡ source_code (places_of layout.now) k (source_of source.now) ++ code.old) }
+    ensures { OnOk result (code.new ≡ source_code (places_of layout.now) k (as_source source.now) ++ code.old) }
 {
     match source {
         TypedSource::Each(es) => emit_exprs(alloc, code, layout, k, es),

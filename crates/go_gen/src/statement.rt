@@ -3,11 +3,11 @@
 //! it, and the next turn of the loop `c`.
 ghost use Rattle.std.specs.Prelude.{◌≡◌, ◌<◌, ◌≤◌, ◌++◌, IfOk, OnOk, map, length};
 ghost use Rattle.std.specs.Option.{option_map};
-ghost use Rattle.go_types.specs.Views.{type_of};
+ghost use Rattle.go_types.specs.Views.{go_type};
 ghost use Rattle.go_typed.specs.Trees as trees;
-ghost use Rattle.go_typed.specs.Views.{expr_of, exprs_in, cases_of, source_of, stmt_of, stmts_in, clauses_in};
+ghost use Rattle.go_typed.specs.Views.{as_expr, as_exprs, cases_of, as_source, as_stmt, stmts_in, clauses_in};
 ghost use Rattle.go_gen.specs.Loops.{Closes};
-ghost use Rattle.go_gen.specs.Translation.{condition_code, begin_code, counted_code, count_code, within_code, cases_code, case_code, tests_code, leave_code, default_place, joined, stmt_code, stmts_code, bodies_code};
+ghost use Rattle.go_gen.specs.Translation.{condition_code, begin_code, counted_code, count_code, within_code, cases_code, case_code, tests_code, leave_code, default_place, concat_code, stmt_code, stmts_code, bodies_code};
 ghost use Rattle.go_gen.specs.Views.{places_of};
 
 use crate::assignment::{emit_assign, emit_define, emit_update};
@@ -38,7 +38,7 @@ fn emit_condition(
     k: usize,
     condition: &Option<TypedExpr>,
 ) -> Result<(), AllocError>
-    ensures { OnOk result (code.new ≡ condition_code (places_of layout.now) k (option_map expr_of condition.now) ++ code.old) }
+    ensures { OnOk result (code.new ≡ condition_code (places_of layout.now) k (option_map as_expr condition.now) ++ code.old) }
 {
     match condition {
         None => code.put(Instr::Frame(FrameInstr::Push(Cell::Bool(true)))),
@@ -58,7 +58,7 @@ fn emit_run(
     arguments: &[TypedExpr],
 ) -> Result<(), AllocError>
     ensures { OnOk result (code.new
-        ≡ stmt_code (places_of layout.now) k (trees.run (map type_of types.now) function.now (exprs_in arguments.now)) 0 0 ++ code.old) }
+        ≡ stmt_code (places_of layout.now) k (trees.run (map go_type types.now) function.now (as_exprs arguments.now)) 0 0 ++ code.old) }
 {
     let counts = type_counts(alloc, types)?;
     code.put(Instr::Frame(FrameInstr::Pop(total(&counts)?)))?;
@@ -74,7 +74,7 @@ fn emit_print(
     k: usize,
     operands: &[TypedExpr],
 ) -> Result<(), AllocError>
-    ensures { OnOk result (code.new ≡ stmt_code (places_of layout.now) k (trees.print (exprs_in operands.now)) 0 0 ++ code.old) }
+    ensures { OnOk result (code.new ≡ stmt_code (places_of layout.now) k (trees.print (as_exprs operands.now)) 0 0 ++ code.old) }
 {
     let counts = expr_counts(alloc, operands)?;
     code.put(Instr::Output(OutputInstr::Print(total(&counts)?)))?;
@@ -89,7 +89,7 @@ fn emit_return(
     k: usize,
     source: &TypedSource,
 ) -> Result<(), AllocError>
-    ensures { OnOk result (code.new ≡ stmt_code (places_of layout.now) k (trees.return (source_of source.now)) 0 0 ++ code.old) }
+    ensures { OnOk result (code.new ≡ stmt_code (places_of layout.now) k (trees.return (as_source source.now)) 0 0 ++ code.old) }
 {
     let counts = source_counts(alloc, source)?;
     code.put(Instr::Calls(CallInstr::Return(total(&counts)?)))?;
@@ -138,7 +138,7 @@ fn put_counted(
 
 /// One further in a range of a type.
 fn put_count(code: &mut Code, at: usize, of: &GoType) -> Result<(), AllocError>
-    ensures { OnOk result (code.new ≡ count_code at (type_of of.now) ++ code.old) }
+    ensures { OnOk result (code.new ≡ count_code at (go_type of.now) ++ code.old) }
 {
     let next = sum(at, 1)?;
     code.put(store(next, 1))?;
@@ -168,7 +168,7 @@ fn emit_cases(
     cases: &[TypedExpr],
     far: usize,
 ) -> Result<(), AllocError>
-    ensures { OnOk result (code.new ≡ cases_code (places_of layout.now) at (type_of of.now) k (exprs_in cases.now) far ++ code.old) }
+    ensures { OnOk result (code.new ≡ cases_code (places_of layout.now) at (go_type of.now) k (as_exprs cases.now) far ++ code.old) }
 {
     let end = code.len();
     let count = cells(of)?;
@@ -196,7 +196,7 @@ fn emit_case(
     clause: &TypedClause,
     far: usize,
 ) -> Result<(), AllocError>
-    ensures { OnOk result (code.new ≡ case_code (places_of layout.now) at (type_of of.now) k (cases_of clause.now.cases) far ++ code.old) }
+    ensures { OnOk result (code.new ≡ case_code (places_of layout.now) at (go_type of.now) k (cases_of clause.now.cases) far ++ code.old) }
 {
     match &clause.cases {
         None => Ok(()),
@@ -216,7 +216,7 @@ fn emit_tests(
     sizes: &[usize],
 ) -> Result<(), AllocError>
     requires { length sizes.now ≡ length clauses.now }
-    ensures { OnOk result (code.new ≡ tests_code (places_of layout.now) at (type_of of.now) k (clauses_in clauses.now) sizes.now 0 ++ code.old) }
+    ensures { OnOk result (code.new ≡ tests_code (places_of layout.now) at (go_type of.now) k (clauses_in clauses.now) sizes.now 0 ++ code.old) }
 {
     let end = code.len();
     let mut behind = sum(k, cases_temps(clauses)?)?;
@@ -266,7 +266,7 @@ fn put_leave(code: &mut Code, falls: bool, passed: usize) -> Result<(), AllocErr
 }
 
 /// A statement that holds no others. An `Err` where it holds others, too.
-#[tactic(auto, unfolding(go_typed::specs::Views::stmt_of))]
+#[tactic(auto, unfolding(go_typed::specs::Views::as_stmt))]
 fn emit_leaf(
     alloc: Global,
     code: &mut Code,
@@ -276,7 +276,7 @@ fn emit_leaf(
     b: usize,
     c: usize,
 ) -> Result<(), AllocError>
-    ensures { OnOk result (code.new ≡ stmt_code (places_of layout.now) k (stmt_of s.now) b c ++ code.old) }
+    ensures { OnOk result (code.new ≡ stmt_code (places_of layout.now) k (as_stmt s.now) b c ++ code.old) }
 {
     match s {
         TypedStmt::Define(names, source) => emit_define(alloc, code, layout, k, names, source),
@@ -311,7 +311,7 @@ fn emit_if(
     b: usize,
     c: usize,
 ) -> Result<(), AllocError>
-    ensures { OnOk result (code.new ≡ stmt_code (places_of layout.now) k (stmt_of s.now) b c ++ code.old) }
+    ensures { OnOk result (code.new ≡ stmt_code (places_of layout.now) k (as_stmt s.now) b c ++ code.old) }
 {
     let TypedStmt::If(e, one, two) = s else {
         return Err(AllocError);
@@ -343,7 +343,7 @@ fn emit_for(
     b: usize,
     c: usize,
 ) -> Result<(), AllocError>
-    ensures { OnOk result (code.new ≡ stmt_code (places_of layout.now) k (stmt_of s.now) b c ++ code.old) }
+    ensures { OnOk result (code.new ≡ stmt_code (places_of layout.now) k (as_stmt s.now) b c ++ code.old) }
 {
     let TypedStmt::For(condition, post, body) = s else {
         return Err(AllocError);
@@ -372,7 +372,7 @@ fn emit_range(
     k: usize,
     s: &TypedStmt,
 ) -> Result<(), AllocError>
-    ensures { OnOk result (code.new ≡ stmt_code (places_of layout.now) k (stmt_of s.now) 0 0 ++ code.old) }
+    ensures { OnOk result (code.new ≡ stmt_code (places_of layout.now) k (as_stmt s.now) 0 0 ++ code.old) }
 {
     let TypedStmt::Range(name, of, e, body) = s else {
         return Err(AllocError);
@@ -402,7 +402,7 @@ fn emit_switch(
     s: &TypedStmt,
     c: usize,
 ) -> Result<(), AllocError>
-    ensures { OnOk result (code.new ≡ stmt_code (places_of layout.now) k (stmt_of s.now) 0 c ++ code.old) }
+    ensures { OnOk result (code.new ≡ stmt_code (places_of layout.now) k (as_stmt s.now) 0 c ++ code.old) }
 {
     let TypedStmt::Switch(e, clauses) = s else {
         return Err(AllocError);
@@ -432,7 +432,7 @@ fn emit_stmt(
     b: usize,
     c: usize,
 ) -> Result<(), AllocError>
-    ensures { OnOk result (code.new ≡ stmt_code (places_of layout.now) k (stmt_of s.now) b c ++ code.old) }
+    ensures { OnOk result (code.new ≡ stmt_code (places_of layout.now) k (as_stmt s.now) b c ++ code.old) }
 {
     match s {
         TypedStmt::If(_, _, _) => emit_if(alloc, code, layout, k, s, b, c),
@@ -478,7 +478,7 @@ fn emit_bodies(
     clauses: &[TypedClause],
     c: usize,
 ) -> Result<Vec<usize>, AllocError>
-    ensures code { OnOk result (code.new ≡ joined (bodies_code (places_of layout.now) k (clauses_in clauses.now) c) ++ code.old) }
+    ensures code { OnOk result (code.new ≡ concat_code (bodies_code (places_of layout.now) k (clauses_in clauses.now) c) ++ code.old) }
     ensures sizes { IfOk result (λ sizes. sizes.items ≡ map length (bodies_code (places_of layout.now) k (clauses_in clauses.now) c)) }
     ensures count { IfOk result (λ sizes. length sizes.items ≡ length clauses.now) }
 {

@@ -2,9 +2,9 @@
 ghost use Rattle.std.specs.Prelude.{◌≡◌, ◌+◌, IfOk, map};
 ghost use Rattle.std.specs.Option.{option_map};
 ghost use Rattle.go_types.specs.Sizes.{cells};
-ghost use Rattle.go_types.specs.Views.{type_of};
+ghost use Rattle.go_types.specs.Views.{go_type};
 ghost use Rattle.go_typed.specs.Trees as trees;
-ghost use Rattle.go_typed.specs.Views.{expr_of, cases_of, left_of, source_of, stmt_of, stmts_in, clauses_in};
+ghost use Rattle.go_typed.specs.Views.{as_expr, cases_of, left_of, as_source, as_stmt, stmts_in, clauses_in};
 ghost use Rattle.go_gen.specs.Translation.{condition_temps, case_temps, cases_temps, left_temps, expr_temps, stmt_temps, stmts_temps, bodies_temps};
 
 use crate::assignment::{left_temps, lefts_temps, values_temps};
@@ -18,7 +18,7 @@ use std::alloc::{AllocError, Global};
 
 /// How many cells the temporaries of a condition take.
 pub(crate) fn condition_temps(condition: &Option<TypedExpr>) -> Result<usize, AllocError>
-    ensures { IfOk result (λ n. n ≡ condition_temps (option_map expr_of condition.now)) }
+    ensures { IfOk result (λ n. n ≡ condition_temps (option_map as_expr condition.now)) }
 {
     match condition {
         None => Ok(0),
@@ -32,7 +32,7 @@ fn assign_temps(
     lefts: &[TypedLeft],
     source: &TypedSource,
 ) -> Result<usize, AllocError>
-    ensures { IfOk result (λ n. n ≡ stmt_temps (trees.assign (map left_of lefts.now) (source_of source.now))) }
+    ensures { IfOk result (λ n. n ≡ stmt_temps (trees.assign (map left_of lefts.now) (as_source source.now))) }
 {
     let counts = source_counts(alloc, source)?;
     let before = sum(lefts_temps(lefts)?, source_temps(source)?)?;
@@ -41,7 +41,7 @@ fn assign_temps(
 
 /// How many cells the temporaries of an operator and an assignment take.
 fn update_temps(of: &GoType, left: &TypedLeft, e: &TypedExpr) -> Result<usize, AllocError>
-    ensures { IfOk result (λ n. n ≡ left_temps (left_of left.now) + expr_temps (expr_of e.now) + cells (type_of of.now)) }
+    ensures { IfOk result (λ n. n ≡ left_temps (left_of left.now) + expr_temps (as_expr e.now) + cells (go_type of.now)) }
 {
     sum(sum(left_temps(left)?, expr_temps(e)?)?, cells(of)?)
 }
@@ -69,9 +69,9 @@ pub(crate) fn cases_temps(clauses: &[TypedClause]) -> Result<usize, AllocError>
 
 /// How many cells the temporaries of a statement take.
 #[cycle(temps)]
-#[tactic(auto, unfolding(go_typed::specs::Views::stmt_of))]
+#[tactic(auto, unfolding(go_typed::specs::Views::as_stmt))]
 pub(crate) fn stmt_temps(alloc: Global, s: &TypedStmt) -> Result<usize, AllocError>
-    ensures { IfOk result (λ n. n ≡ stmt_temps (stmt_of s.now)) }
+    ensures { IfOk result (λ n. n ≡ stmt_temps (as_stmt s.now)) }
 {
     match s {
         TypedStmt::Define(_, source) => source_temps(source),

@@ -1,6 +1,6 @@
 //! How many cells temporaries take.
 ghost use Rattle.std.specs.Prelude.{◌≡◌, ◌+◌, IfOk};
-ghost use Rattle.go_typed.specs.Views.{expr_of, exprs_in, parts_in};
+ghost use Rattle.go_typed.specs.Views.{as_expr, as_exprs, parts_in};
 ghost use Rattle.go_gen.specs.Translation.{expr_temps, exprs_temps, parts_temps};
 
 use crate::size::{cells, sum};
@@ -9,9 +9,9 @@ use std::alloc::AllocError;
 
 /// Those of an expression.
 #[cycle(temps)]
-#[tactic(auto, unfolding(go_typed::specs::Views::expr_of))]
+#[tactic(auto, unfolding(go_typed::specs::Views::as_expr))]
 pub(crate) fn expr_temps(e: &TypedExpr) -> Result<usize, AllocError>
-    ensures { IfOk result (λ n. n ≡ expr_temps (expr_of e.now)) }
+    ensures { IfOk result (λ n. n ≡ expr_temps (as_expr e.now)) }
 {
     match &e.kind {
         TypedExprKind::Constant(_) => Ok(0),
@@ -46,14 +46,14 @@ pub(crate) fn expr_temps(e: &TypedExpr) -> Result<usize, AllocError>
 
 /// The number of the first cell behind the temporaries of an expression, of which `k` is the first.
 pub(crate) fn cell_behind(k: usize, e: &TypedExpr) -> Result<usize, AllocError>
-    ensures { IfOk result (λ n. n ≡ k + expr_temps (expr_of e.now)) }
+    ensures { IfOk result (λ n. n ≡ k + expr_temps (as_expr e.now)) }
 {
     sum(k, expr_temps(e)?)
 }
 
 /// The temporary that an operand is kept in, behind those of its own, and the cell behind it.
 pub(crate) fn cell_kept(k: usize, e: &TypedExpr) -> Result<(usize, usize), AllocError>
-    ensures { IfOk result (λ n. (n.0 ≡ k + expr_temps (expr_of e.now)) × (n.1 ≡ n.0 + 1)) }
+    ensures { IfOk result (λ n. (n.0 ≡ k + expr_temps (as_expr e.now)) × (n.1 ≡ n.0 + 1)) }
 {
     let temp = cell_behind(k, e)?;
     Ok((temp, sum(temp, 1)?))
@@ -62,7 +62,7 @@ pub(crate) fn cell_kept(k: usize, e: &TypedExpr) -> Result<(usize, usize), Alloc
 /// Those of some expressions.
 #[cycle(temps)]
 pub(crate) fn exprs_temps(es: &[TypedExpr]) -> Result<usize, AllocError>
-    ensures { IfOk result (λ n. n ≡ exprs_temps (exprs_in es.now)) }
+    ensures { IfOk result (λ n. n ≡ exprs_temps (as_exprs es.now)) }
 {
     let mut count = 0;
     for e in es {

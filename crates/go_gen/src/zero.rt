@@ -1,8 +1,8 @@
 //! The cells of zero values. [The zero value](https://go.dev/ref/spec#The_zero_value)
 ghost use Rattle.std.specs.Prelude.{◌≡◌, ◌++◌, ◌∷◌, [], OnOk, replicate};
 ghost use Rattle.go_code.specs.declared.cell.Cell.TheVariants.{Slice};
-ghost use Rattle.go_types.specs.Views.{type_of, fields_in};
-ghost use Rattle.go_meaning.specs.Values.{Value, flat, flat_all, pack, zero_cell as zero_of_basic, zero_of, zeros_of};
+ghost use Rattle.go_types.specs.Views.{go_type, fields_in};
+ghost use Rattle.go_meaning.specs.Values.{Value, flat, flat_all, pack_values, zero_cell as zero_of_basic, zero_of, zeros_of};
 
 use crate::instr::{no_slice, zero_cell};
 use crate::size::cells;
@@ -12,7 +12,7 @@ use std::alloc::{AllocError, Global};
 
 /// The cells of a value so many times, behind others.
 fn push_repeated(found: &mut Vec<Cell>, one: &[Cell], times: u32) -> Result<(), AllocError>
-    ensures { OnOk result ((value : Value) → one.now ≡ flat value → found.new.items ≡ found.old.items ++ flat_all (pack (replicate times value))) }
+    ensures { OnOk result ((value : Value) → one.now ≡ flat value → found.new.items ≡ found.old.items ++ flat_all (pack_values (replicate times value))) }
 {
     for _ in 0..times {
         push_copies(found, one)?;
@@ -43,7 +43,7 @@ fn push_no_slice(found: &mut Vec<Cell>) -> Result<(), AllocError>
 /// that the walk takes as long as the type has nodes and cells.
 #[cycle(cells)]
 pub(crate) fn push_zero(alloc: Global, found: &mut Vec<Cell>, of: &GoType) -> Result<(), AllocError>
-    ensures { OnOk result (found.new.items ≡ found.old.items ++ flat (zero_of (type_of of.now))) }
+    ensures { OnOk result (found.new.items ≡ found.old.items ++ flat (zero_of (go_type of.now))) }
 {
     match of {
         GoType::Basic(basic) => push_basic(alloc, found, *basic),
@@ -72,7 +72,7 @@ fn push_elements(
     length: u32,
     element: &Element,
 ) -> Result<(), AllocError>
-    ensures { OnOk result (found.new.items ≡ found.old.items ++ flat_all (pack (replicate length (zero_of element.now)))) }
+    ensures { OnOk result (found.new.items ≡ found.old.items ++ flat_all (pack_values (replicate length (zero_of element.now)))) }
 {
     if cells(&element.of)? == 0 {
         return Ok(());

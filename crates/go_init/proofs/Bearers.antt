@@ -12,7 +12,7 @@ use Rattle.std.proofs.lemmas.Option.{slice_get-map, slice_get_within}
 use Rattle.ws_reach.specs.Reach.{Edge, EdgesStayWithin}
 use Rattle.ws_reach.proofs.Reached.{contains_get, get_contains}
 use Rattle.go_init.specs.Nodes.{Node, Refers}
-use Rattle.go_init.specs.Views.{bearers, listed, node_of}
+use Rattle.go_init.specs.Views.{bearers, listed_numbers, node_of}
 use Rattle.go_init.specs.declared.nodes.Node.{Node as CodeNode}
 use Rattle.go_init.proofs.Members.{contained, one_left, one_of}
 use Rattle.go_init.proofs.Names.{one_either, one_right}
@@ -89,7 +89,7 @@ AreUnder nodes i m = (x : Bor (List ℕ)) (k : ℕ) → Contains (bearers m x) k
 
 pub under_none : (nodes : List CodeNode) (m : Map) → m.entries ≡ [] → AreUnder nodes 0 m
 under_none nodes m none x k = (
-  λ h. absurd (one_of [] k (subst (λ (l : List ℕ). Contains l k) (ap (λ (es : List (Bor (List ℕ) × Vec ℕ)). listed (lookup (is_at (λ (n : Name). slice_cmp nat_cmp x.now n.now)) es)) none) h)),
+  λ h. absurd (one_of [] k (subst (λ (l : List ℕ). Contains l k) (ap (λ (es : List (Bor (List ℕ) × Vec ℕ)). listed_numbers (lookup (is_at (λ (n : Name). slice_cmp nat_cmp x.now n.now)) es)) none) h)),
   λ h. (let lt = h.0 in absurd (omega (arith, lt))),
 )
 

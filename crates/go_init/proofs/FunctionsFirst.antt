@@ -7,7 +7,7 @@ use Rattle.ws_reach.specs.Reach.{Reaches, Walks}
 use Rattle.ws_reach.proofs.Closure.{IsOneOf}
 use Rattle.ws_reach.proofs.Reached.{reaches_from}
 use Rattle.go_init.specs.Condensation.{variables_among}
-use Rattle.go_init.specs.Turns.{first_of, turns, in_turn}
+use Rattle.go_init.specs.Turns.{first_passing, turn_order, in_turn}
 use Rattle.go_init.proofs.WaysOut.{way_out}
 use Rattle.go_init.proofs.First.{Ascending, AreOthers, least_first, none_first, turns_none, turns_some}
 use Rattle.go_init.proofs.Members.{any_one, one_any}
@@ -72,21 +72,21 @@ module _ (test : ℕ → Bool) where
       let same : w ≡ x = ap (λ (r : ℕ × List ℕ). r.0) p in
       later w ws refl j h (omega (arith, lt, same))
 
-  before_test : (z : ℕ) (zs : List ℕ) (x : ℕ) (ys : List ℕ) (b : Bool) → test z ≡ b → Ascending (z ∷ zs) → ((w : ℕ) (ws : List ℕ) → first_of test zs ≡ Some (w, ws) → (j : ℕ) → IsOneOf j zs → j < w → test j ≡ false)
-      → ◌≡◌ {A = Option (ℕ × List ℕ)} (if b then Some (z, zs) else option_map (λ (r : ℕ × List ℕ). (r.0, z ∷ r.1)) (first_of test zs)) (Some (x, ys)) → (j : ℕ) → IsOneOf j (z ∷ zs) → j < x → test j ≡ false
+  before_test : (z : ℕ) (zs : List ℕ) (x : ℕ) (ys : List ℕ) (b : Bool) → test z ≡ b → Ascending (z ∷ zs) → ((w : ℕ) (ws : List ℕ) → first_passing test zs ≡ Some (w, ws) → (j : ℕ) → IsOneOf j zs → j < w → test j ≡ false)
+      → ◌≡◌ {A = Option (ℕ × List ℕ)} (if b then Some (z, zs) else option_map (λ (r : ℕ × List ℕ). (r.0, z ∷ r.1)) (first_passing test zs)) (Some (x, ys)) → (j : ℕ) → IsOneOf j (z ∷ zs) → j < x → test j ≡ false
   before_test z zs x ys true is a later e j h lt =
       let p : ◌≡◌ {A = ℕ × List ℕ} (z, zs) (x, ys) = cc in
       let same : z ≡ x = ap (λ (r : ℕ × List ℕ). r.0) p in
       elim h [ inl it ↦ absurd (omega (arith, lt, same, it)) | inr r ↦ (let up = a.0 j r in absurd (omega (arith, lt, same, up))) ]
-  before_test z zs x ys false is a later e j h lt = before_by z zs x ys (first_of test zs) later is e j h lt
+  before_test z zs x ys false is a later e j h lt = before_by z zs x ys (first_passing test zs) later is e j h lt
 
   -- none before the first passes
-  before_first : (xs : List ℕ) (x : ℕ) (ys : List ℕ) → Ascending xs → first_of test xs ≡ Some (x, ys) → (j : ℕ) → IsOneOf j xs → j < x → test j ≡ false
+  before_first : (xs : List ℕ) (x : ℕ) (ys : List ℕ) → Ascending xs → first_passing test xs ≡ Some (x, ys) → (j : ℕ) → IsOneOf j xs → j < x → test j ≡ false
   before_first [] x ys a e j h lt = absurd h
   before_first (z ∷ zs) x ys a e j h lt = before_test z zs x ys (test z) refl a (λ w ws is. before_first zs w ws a.1 is) e j h lt
 
   -- the others still ascend
-  first_others : (xs : List ℕ) (x : ℕ) (ys : List ℕ) → Ascending xs → first_of test xs ≡ Some (x, ys) → AreOthers xs x ys
+  first_others : (xs : List ℕ) (x : ℕ) (ys : List ℕ) → Ascending xs → first_passing test xs ≡ Some (x, ys) → AreOthers xs x ys
   first_others xs x ys a e =
       let f = first_is test xs x ys e in
       let l = least_first test xs x a f.one f.passes (before_first xs x ys a e) in
@@ -192,7 +192,7 @@ module _ (waits depends : ℕ → ℕ → Bool) (functions variables : ℕ) (mix
     closed = closed_left xs (functions + v) ys s.closed (o, is);
   }
 
-  turn_none : (n : ℕ) (vs : List ℕ) → first_of (free_of vs) vs ≡ None → (turns depends n vs).0 ≡ []
+  turn_none : (n : ℕ) (vs : List ℕ) → first_passing (free_of vs) vs ≡ None → (turn_order depends n vs).0 ≡ []
   turn_none zero vs e = refl
   turn_none (suc n) vs e = turns_none depends n vs e
 
@@ -201,16 +201,16 @@ module _ (waits depends : ℕ → ℕ → Bool) (functions variables : ℕ) (mix
   length_zero v (w ∷ ws) h le = omega (arith, le)
 
   -- one more turn of the variables
-  turn_some : (m : ℕ) (vs : List ℕ) (v : ℕ) (us : List ℕ) → first_of (free_of vs) vs ≡ Some (v, us) → length vs ≤ m → (k : ℕ) × (length us ≤ k) × ((turns depends m vs).0 ≡ v ∷ (turns depends k us).0)
+  turn_some : (m : ℕ) (vs : List ℕ) (v : ℕ) (us : List ℕ) → first_passing (free_of vs) vs ≡ Some (v, us) → length vs ≤ m → (k : ℕ) × (length us ≤ k) × ((turn_order depends m vs).0 ≡ v ∷ (turn_order depends k us).0)
   turn_some zero vs v us e le = absurd (length_zero v vs (first_is (free_of vs) vs v us e).one le)
   turn_some (suc m) vs v us e le = (m, (let few = (first_is (free_of vs) vs v us e).fewer in omega (arith, le, few)), turns_some depends m vs v us e)
 
   abbrev going : ℕ → List ℕ → Option (ℕ × List ℕ) → List ℕ × List ℕ
-  going n xs o = elim o [ None ↦ ([], xs) | Some r ↦ (let rest = turns waits n r.1 in (r.0 ∷ rest.0, rest.1)) ]
+  going n xs o = elim o [ None ↦ ([], xs) | Some r ↦ (let rest = turn_order waits n r.1 in (r.0 ∷ rest.0, rest.1)) ]
 
-  alike_by : (n : ℕ) (xs vs : List ℕ) (m : ℕ) (o : Option (ℕ × List ℕ)) → first_of (free xs) xs ≡ o → State xs vs → length xs ≤ suc n → length vs ≤ m
-      → ((ys us : List ℕ) (k : ℕ) → State ys us → length ys ≤ n → length us ≤ k → variables_among functions (turns waits n ys).0 ≡ (turns depends k us).0)
-      → variables_among functions (going n xs o).0 ≡ (turns depends m vs).0
+  alike_by : (n : ℕ) (xs vs : List ℕ) (m : ℕ) (o : Option (ℕ × List ℕ)) → first_passing (free xs) xs ≡ o → State xs vs → length xs ≤ suc n → length vs ≤ m
+      → ((ys us : List ℕ) (k : ℕ) → State ys us → length ys ≤ n → length us ≤ k → variables_among functions (turn_order waits n ys).0 ≡ (turn_order depends k us).0)
+      → variables_among functions (going n xs o).0 ≡ (turn_order depends m vs).0
   alike_by n xs vs m None e s le few later =
       let none : (x : ℕ) → IsOneOf x xs → free xs x ≡ false = λ x h. first_none (free xs) xs x h e in
       sym (turn_none m vs (none_first (free_of vs) vs (λ v h. bound_there xs vs s (λ x low k. none x k) v h (none (functions + v) (s.there v h)))))
@@ -219,7 +219,7 @@ module _ (waits depends : ℕ → ℕ → Bool) (functions variables : ℕ) (mix
       let left : Left xs x ys = (first_others (free xs) xs x ys s.ascend e, f.passes) in
       let less : length ys ≤ n = (let fewer = f.fewer in omega (arith, le, fewer)) in
       elim (cases_lt x functions) [
-        | inl low ↦ of_function functions x (turns waits n ys).0 low ∙ later ys vs m (function_taken xs vs x ys s low left) less few
+        | inl low ↦ of_function functions x (turn_order waits n ys).0 low ∙ later ys vs m (function_taken xs vs x ys s low left) less few
         | inr high ↦ (
             let it : x ≡ functions + (x - functions) = omega (arith, high) in
             let before = before_first (free xs) xs x ys s.ascend e in
@@ -228,7 +228,7 @@ module _ (waits depends : ℕ → ℕ → Bool) (functions variables : ℕ) (mix
             let l = least_first (free_of vs) vs (x - functions) s.ascend_of here (free_there xs vs s (x - functions) here (subst (λ z. free xs z ≡ true) it f.passes))
             (λ j h lt. bound_there xs vs s none j h (before (functions + j) (s.there j h) (omega (arith, lt, it)))) in
             let t = turn_some m vs (x - functions) l.0 l.1 few in
-            of_variable functions x (x - functions) (turns waits n ys).0 it
+            of_variable functions x (x - functions) (turn_order waits n ys).0 it
             ∙ ap (λ (r : List ℕ). (x - functions) ∷ r) (later ys l.0 t.0 (variable_taken xs vs (x - functions) ys l.0 s (subst (λ z. Left xs z ys) it left) l.2) less t.1)
             ∙ sym t.2)
       ]
@@ -237,10 +237,10 @@ module _ (waits depends : ℕ → ℕ → Bool) (functions variables : ℕ) (mix
   nothing [] le x h = h
   nothing (y ∷ ys) le x h = omega (arith, le)
 
-  alike : (n : ℕ) (xs vs : List ℕ) (m : ℕ) → State xs vs → length xs ≤ n → length vs ≤ m → variables_among functions (turns waits n xs).0 ≡ (turns depends m vs).0
+  alike : (n : ℕ) (xs vs : List ℕ) (m : ℕ) → State xs vs → length xs ≤ n → length vs ≤ m → variables_among functions (turn_order waits n xs).0 ≡ (turn_order depends m vs).0
   alike zero xs vs m s le few =
       sym (turn_none m vs (none_first (free_of vs) vs (λ v h. absurd (nothing xs le (functions + v) (s.there v h)))))
-  alike (suc n) xs vs m s le few = alike_by n xs vs m (first_of (free xs) xs) refl s le few (alike n)
+  alike (suc n) xs vs m s le few = alike_by n xs vs m (first_passing (free xs) xs) refl s le few (alike n)
 
   start : State (range_with_len 0 (functions + variables)) (range_with_len 0 variables)
   start = record {

@@ -1,30 +1,30 @@
-pub mod Ascends
-pub mod Bearers
-pub mod Behind
-pub mod Circles
-pub mod Computed
-pub mod ComputedVariables
-pub mod Condensed
-pub mod Depends
-pub mod First
-pub mod FunctionsFirst
-pub mod Graphs
-pub mod InTurn
-pub mod Keys
-pub mod Marked
+mod Ascends
+mod Bearers
+mod Behind
+mod Circles
+mod Computed
+mod ComputedVariables
+mod Condensed
+mod Depends
+mod First
+mod FunctionsFirst
+mod Graphs
+mod InTurn
+mod Keys
+mod Marked
 pub mod Members
-pub mod Named
-pub mod Names
-pub mod Ordered
+mod Named
+mod Names
+mod Ordered
 pub mod Orders
-pub mod Queued
-pub mod Related
-pub mod Results
-pub mod Rooted
-pub mod Steps
+mod Queued
+mod Related
+mod Results
+mod Rooted
+mod Steps
 pub mod Turns
-pub mod VariableOrders
-pub mod VariablesAmong
-pub mod Waiters
-pub mod Waiting
-pub mod WaysOut
+mod VariableOrders
+mod VariablesAmong
+mod Waiters
+mod Waiting
+mod WaysOut

@@ -10,7 +10,7 @@ use Rattle.std.proofs.lemmas.Bool.{cases_Bool}
 use Rattle.std.proofs.lemmas.List.Elements.{Contains-append_left, Contains-push, Contains-push_cases}
 use Rattle.std.proofs.lemmas.Map.Text.{is_eq-slice_cmp}
 use Rattle.std.proofs.lemmas.Slice.Eq.{bytes_eq-Decides}
-use Rattle.go_init.specs.Views.{bearers, listed}
+use Rattle.go_init.specs.Views.{bearers, listed_numbers}
 
 abbrev Name : Type 0
 Name = Bor (List ℕ)
@@ -22,7 +22,7 @@ abbrev cmp : Bor (List ℕ) → Bor (List ℕ) → Ordering
 cmp a b = slice_cmp nat_cmp a.now b.now
 
 pub same_bearers : (m : Map) (x y : Name) → x.now ≡ y.now → bearers m x ≡ bearers m y
-same_bearers m x y e = ap (λ (t : List ℕ). listed (get_by (λ (k : Name). slice_cmp nat_cmp t k.now) m)) e
+same_bearers m x y e = ap (λ (t : List ℕ). listed_numbers (get_by (λ (k : Name). slice_cmp nat_cmp t k.now) m)) e
 
 at_same : (k x : Name) → x.now ≡ k.now → is_at (cmp k) x ≡ true
 at_same k x e = is_eq-slice_cmp k.now x.now ∙ (bytes_eq-Decides k.now x.now).1 (sym e)
@@ -33,11 +33,11 @@ at_other k x ne = elim (cases_Bool (bytes_eq k.now x.now)) [
   | inr f ↦ is_eq-slice_cmp k.now x.now ∙ f
 ]
 
-pub updated_here : (m n : Map) (k : Name) (w : Option (Vec ℕ)) → Updates cmp m n k w → (x : Name) → x.now ≡ k.now → bearers n x ≡ listed w
-updated_here m n k w u x e = ap listed (u.0 x ∙ ap (λ b. cond b w (get cmp m x)) (at_same k x e))
+pub updated_here : (m n : Map) (k : Name) (w : Option (Vec ℕ)) → Updates cmp m n k w → (x : Name) → x.now ≡ k.now → bearers n x ≡ listed_numbers w
+updated_here m n k w u x e = ap listed_numbers (u.0 x ∙ ap (λ b. cond b w (get cmp m x)) (at_same k x e))
 
 pub updated_else : (m n : Map) (k : Name) (w : Option (Vec ℕ)) → Updates cmp m n k w → (x : Name) → (x.now ≡ k.now → ⊥) → bearers n x ≡ bearers m x
-updated_else m n k w u x ne = ap listed (u.0 x ∙ ap (λ b. cond b w (get cmp m x)) (at_other k x ne))
+updated_else m n k w u x ne = ap listed_numbers (u.0 x ∙ ap (λ b. cond b w (get cmp m x)) (at_other k x ne))
 
 -- a number more under a name
 pub one_more : (m taken n : Map) (k : Name) (numbers : Vec ℕ) (number : ℕ) → numbers.items ≡ bearers m k ++ number ∷ [] → ((x : Name) → (x.now ≡ k.now → ⊥) → bearers taken x ≡ bearers m x)

@@ -4,7 +4,7 @@ use Rattle.std.specs.List.{Contains, filter_map, range_with_len, slice_get}
 use Rattle.std.proofs.lemmas.List.FromFn.{length-range_with_len}
 use Rattle.ws_reach.proofs.Closure.{IsOneOf}
 use Rattle.go_typed.specs.Trees.{Initialization, Package}
-use Rattle.go_init.specs.Turns.{in_turn, turns}
+use Rattle.go_init.specs.Turns.{in_turn, turn_order}
 use Rattle.go_init.specs.Variables.{depends, is_due, variable_order}
 use Rattle.go_init.proofs.Ascends.{IsRest, rest_is}
 use Rattle.go_init.proofs.First.{Ascending}
@@ -37,24 +37,24 @@ module _ (p : Package) where
   abbrev numbers : List ℕ
   numbers = range_with_len 0 (length p.initializations)
 
-  both : AreRelated (StandsAt p.initializations) (turns (is_due p) count numbers).0 (variable_order p).0 × AreRelated (StandsAt p.initializations) (turns (is_due p) count numbers).1 (variable_order p).1
+  both : AreRelated (StandsAt p.initializations) (turn_order (is_due p) count numbers).0 (variable_order p).0 × AreRelated (StandsAt p.initializations) (turn_order (is_due p) count numbers).1 (variable_order p).1
   both = turned (StandsAt p.initializations) (is_due p) (depends p) (λ x x1 y y1 r r1. is_due_at p x x1 y y1 r r1) count numbers p.initializations (counted p.initializations)
 
-  order_is : (in_turn (is_due p) numbers).0 ≡ (turns (is_due p) count numbers).0
-  order_is = ap (λ n. (turns (is_due p) n numbers).0) (length-range_with_len 0 count)
+  order_is : (in_turn (is_due p) numbers).0 ≡ (turn_order (is_due p) count numbers).0
+  order_is = ap (λ n. (turn_order (is_due p) n numbers).0) (length-range_with_len 0 count)
 
   pub ordered : (order : List ℕ) → order ≡ (in_turn (is_due p) (range_with_len 0 (length p.initializations))).0 → filter_map (slice_get p.initializations) order ≡ (variable_order p).0
-  ordered order is = ap (filter_map (slice_get p.initializations)) (is ∙ order_is) ∙ numbered p.initializations (turns (is_due p) count numbers).0 (variable_order p).0 both.0
+  ordered order is = ap (filter_map (slice_get p.initializations)) (is ∙ order_is) ∙ numbered p.initializations (turn_order (is_due p) count numbers).0 (variable_order p).0 both.0
 
-  rest : IsRest (is_due p) (turns (is_due p) count numbers).0 (turns (is_due p) count numbers).1
+  rest : IsRest (is_due p) (turn_order (is_due p) count numbers).0 (turn_order (is_due p) count numbers).1
   rest = rest_is (is_due p) count numbers (range_ascends 0 count)
 
-  listed : (order : List ℕ) → order ≡ (in_turn (is_due p) (range_with_len 0 (length p.initializations))).0 → (k : ℕ) → Contains order k → IsOneOf k (turns (is_due p) count numbers).0
+  listed : (order : List ℕ) → order ≡ (in_turn (is_due p) (range_with_len 0 (length p.initializations))).0 → (k : ℕ) → Contains order k → IsOneOf k (turn_order (is_due p) count numbers).0
   listed order is k h = subst (λ l. IsOneOf k l) (is ∙ order_is) (one_of order k h)
 
   pub nothing_left : (order : List ℕ) → order ≡ (in_turn (is_due p) (range_with_len 0 (length p.initializations))).0 → ((k : ℕ) → k < length p.initializations → Contains order k) → (variable_order p).1 ≡ []
   nothing_left order is has =
-      none_there p.initializations (turns (is_due p) count numbers).1 (variable_order p).1 both.1
+      none_there p.initializations (turn_order (is_due p) count numbers).1 (variable_order p).1 both.1
       (λ k h. (
       let r = in_range 0 count k ((turns_are (is_due p) count numbers).over k h) in
       let high = r.1 in
@@ -63,8 +63,8 @@ module _ (p : Package) where
   pub first_left : (order : List ℕ) → order ≡ (in_turn (is_due p) (range_with_len 0 (length p.initializations))).0 → (k : ℕ) → k < length p.initializations → (Contains order k → ⊥) → ((j : ℕ) → j < k → Contains order j)
       → (i : Initialization) × (more : List Initialization) × ((variable_order p).1 ≡ i ∷ more) × (slice_get p.initializations k ≡ Some i)
   first_left order is k lt lacks has =
-      let there : IsOneOf k (turns (is_due p) count numbers).1 = elim ((turns_are (is_due p) count numbers).parted k (range_has 0 count k (omega arith) (omega (arith, lt)))) [
+      let there : IsOneOf k (turn_order (is_due p) count numbers).1 = elim ((turns_are (is_due p) count numbers).parted k (range_has 0 count k (omega arith) (omega (arith, lt)))) [
         | inl h ↦ absurd (lacks (contained order k (subst (λ l. IsOneOf k l) (sym (is ∙ order_is)) h)))
         | inr h ↦ h
       ] in
-      least_there p.initializations k (turns (is_due p) count numbers).1 (variable_order p).1 both.1 rest.ascend there (λ j less h. rest.apart j (listed order is j (has j less)) h)
+      least_there p.initializations k (turn_order (is_due p) count numbers).1 (variable_order p).1 both.1 rest.ascend there (λ j less h. rest.apart j (listed order is j (has j less)) h)

@@ -4,7 +4,7 @@ use Rattle.std.specs.Prelude.{⊤, option_map}
 use Rattle.std.specs.List.{filter_map, list_any, range_with_len, slice_get}
 use Rattle.std.proofs.lemmas.Bool.{cases_Bool}
 use Rattle.std.proofs.lemmas.List.{length-append}
-use Rattle.go_init.specs.Turns.{first_of, turns}
+use Rattle.go_init.specs.Turns.{first_passing, turn_order}
 
 module _ {A B : Type 0} (R : A → B → Type 0) where
   abbrev pub AreRelated : List A → List B → Type 0
@@ -33,14 +33,14 @@ module _ {A B : Type 0} (R : A → B → Type 0) where
   more x y r (Some s) None h = absurd h
   more x y r (Some s) (Some t) h = (h.0, (r, h.1))
 
-  first_alike : (f : A → Bool) (g : B → Bool) → ((x : A) (y : B) → R x y → f x ≡ g y) → (xs : List A) (ys : List B) → AreRelated xs ys → AreFirsts (first_of f xs) (first_of g ys)
+  first_alike : (f : A → Bool) (g : B → Bool) → ((x : A) (y : B) → R x y → f x ≡ g y) → (xs : List A) (ys : List B) → AreRelated xs ys → AreFirsts (first_passing f xs) (first_passing g ys)
   unfolding AreFirsts
   first_alike f g same [] [] r = tt
   first_alike f g same [] (y ∷ ys) r = absurd r
   first_alike f g same (x ∷ xs) [] r = absurd r
   first_alike f g same (x ∷ xs) (y ∷ ys) r = elim (cases_Bool (g y)) [
     | inl t ↦ rw (same x y r.0 ∙ t) (rw t r)
-    | inr n ↦ rw (same x y r.0 ∙ n) (rw n (more x y r.0 (first_of f xs) (first_of g ys) (first_alike f g same xs ys r.1)))
+    | inr n ↦ rw (same x y r.0 ∙ n) (rw n (more x y r.0 (first_passing f xs) (first_passing g ys) (first_alike f g same xs ys r.1)))
   ]
 
   module _ (waits : A → A → Bool) (holds : B → B → Bool) (alike : (x x1 : A) (y y1 : B) → R x y → R x1 y1 → waits x x1 ≡ holds y y1) where
@@ -48,18 +48,18 @@ module _ {A B : Type 0} (R : A → B → Type 0) where
     Turned r s = AreRelated r.0 s.0 × AreRelated r.1 s.1
 
     turned_by : (n : ℕ) (xs : List A) (ys : List B) → AreRelated xs ys → (o : Option (A × List A)) (q : Option (B × List B)) → AreFirsts o q
-        → ((us : List A) (vs : List B) → AreRelated us vs → Turned (turns waits n us) (turns holds n vs))
-        → Turned (elim o [ None ↦ ([], xs) | Some r ↦ (let rest = turns waits n r.1 in (r.0 ∷ rest.0, rest.1)) ]) (elim q [ None ↦ ([], ys) | Some r ↦ (let rest = turns holds n r.1 in (r.0 ∷ rest.0, rest.1)) ])
+        → ((us : List A) (vs : List B) → AreRelated us vs → Turned (turn_order waits n us) (turn_order holds n vs))
+        → Turned (elim o [ None ↦ ([], xs) | Some r ↦ (let rest = turn_order waits n r.1 in (r.0 ∷ rest.0, rest.1)) ]) (elim q [ None ↦ ([], ys) | Some r ↦ (let rest = turn_order holds n r.1 in (r.0 ∷ rest.0, rest.1)) ])
     unfolding AreFirsts
     turned_by n xs ys r None None h later = (tt, r)
     turned_by n xs ys r None (Some s) h later = absurd h
     turned_by n xs ys r (Some s) None h later = absurd h
     turned_by n xs ys r (Some s) (Some t) h later = (let l = later s.1 t.1 h.1 in ((h.0, l.0), l.1))
 
-    pub turned : (n : ℕ) (xs : List A) (ys : List B) → AreRelated xs ys → AreRelated (turns waits n xs).0 (turns holds n ys).0 × AreRelated (turns waits n xs).1 (turns holds n ys).1
+    pub turned : (n : ℕ) (xs : List A) (ys : List B) → AreRelated xs ys → AreRelated (turn_order waits n xs).0 (turn_order holds n ys).0 × AreRelated (turn_order waits n xs).1 (turn_order holds n ys).1
     turned zero xs ys r = (tt, r)
     turned (suc n) xs ys r =
-        turned_by n xs ys r (first_of (λ x. not (list_any (waits x) xs)) xs) (first_of (λ y. not (list_any (holds y) ys)) ys)
+        turned_by n xs ys r (first_passing (λ x. not (list_any (waits x) xs)) xs) (first_passing (λ y. not (list_any (holds y) ys)) ys)
         (first_alike (λ x. not (list_any (waits x) xs)) (λ y. not (list_any (holds y) ys)) (λ x y h. ap not (any_alike (waits x) (holds y) (λ x1 y1 h1. alike x x1 y y1 h h1) xs ys r)) xs ys r)
         (turned n)
 

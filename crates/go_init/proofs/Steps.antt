@@ -11,7 +11,7 @@ use Rattle.go_init.specs.declared.queue.Queue.{Queue}
 use Rattle.go_init.specs.declared.queue.Waiter.{Waiter}
 use Rattle.go_init.specs.Packages.{imports, package_order}
 use Rattle.go_init.specs.Queues.{AreQueued, IsLeft, IsReady, IsWaiter}
-use Rattle.go_init.specs.Turns.{turns}
+use Rattle.go_init.specs.Turns.{turn_order}
 use Rattle.go_init.proofs.First.{Ascending, free, least_first, none_first, turns_none, turns_some}
 use Rattle.go_init.proofs.Members.{any_one, contained, one_any, one_of}
 use Rattle.go_init.proofs.Orders.{edge_is, edge_of, in_range, range_has}
@@ -26,7 +26,7 @@ pub record AreLeft (listed : List Bool) (xs : List ℕ) : Type 0 where
 pub record SoFar (rows : List (List ℕ)) (listed : List Bool) (order : List ℕ) (todo : ℕ) : Type 0 where
   pub xs : List ℕ
   pub left : AreLeft listed xs
-  pub same : order ++ (turns (imports rows) todo xs).0 ≡ package_order rows
+  pub same : order ++ (turn_order (imports rows) todo xs).0 ≡ package_order rows
 
 pub range_ascends : (a n : ℕ) → Ascending (range_with_len a n)
 range_ascends a zero = tt
@@ -44,7 +44,7 @@ so_far_first rows listed is =
           λ h. (let lt = slice_get_within listed k false h in range_has 0 n k (omega arith) (omega (arith, lt, ap length is, length-replicate n false))),
         );
       };
-      same = ap (λ m. (turns (imports rows) m (range_with_len 0 n)).0) (sym (length-range_with_len 0 n));
+      same = ap (λ m. (turn_order (imports rows) m (range_with_len 0 n)).0) (sym (length-range_with_len 0 n));
     }
 
 none_any : (test : ℕ → Bool) (xs : List ℕ) (b : Bool) → list_any test xs ≡ b → ((y : ℕ) → IsOneOf y xs → test y ≡ true → ⊥) → not b ≡ true
@@ -94,7 +94,7 @@ module _ (rows : List (List ℕ)) (queue : Queue) (queued : AreQueued rows queue
             λ h. (let l = left_from old number k inside (subst (λ l. IsLeft l k) is h) in others.all k ((so.left.has k).1 l.0) l.1),
           );
         };
-        same = append_assoc order (number ∷ []) (turns (imports rows) todo first.0).0 ∙ ap (λ l. order ++ l) (sym (turns_some (imports rows) todo so.xs number first.0 first.1)) ∙ so.same;
+        same = append_assoc order (number ∷ []) (turn_order (imports rows) todo first.0).0 ∙ ap (λ l. order ++ l) (sym (turns_some (imports rows) todo so.xs number first.0 first.1)) ∙ so.same;
       }
 
 pub so_far_end : (rows : List (List ℕ)) (listed : List Bool) (order : List ℕ) → SoFar rows listed order 0 → order ≡ package_order rows

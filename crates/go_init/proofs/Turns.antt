@@ -3,7 +3,7 @@ use Rattle.std.proofs.Common.{◌≡◌, ℕ, zero, suc, ◌+◌, ◌≤◌, Boo
 use Rattle.std.specs.Prelude.{if◌then◌else◌, option_map}
 use Rattle.std.specs.List.{list_any}
 use Rattle.ws_reach.proofs.Closure.{IsOneOf}
-use Rattle.go_init.specs.Turns.{first_of, turns}
+use Rattle.go_init.specs.Turns.{first_passing, turn_order}
 use Rattle.go_init.proofs.Members.{Apart, any_one, one_any, one_here}
 
 -- x is one that passes, and ys are the others
@@ -47,16 +47,16 @@ module _ {A : Type 0} (test : A → Bool) where
       let rest : z ∷ ws ≡ ys = ap (λ (r : A × List A). r.1) p in
       subst (λ l. IsFirst test (z ∷ zs) x l) rest (subst (λ y. IsFirst test (z ∷ zs) y (z ∷ ws)) same (behind_it z zs w ws (later w ws refl)))
 
-  first_by : (z : A) (zs : List A) (x : A) (ys : List A) (b : Bool) → test z ≡ b → ((w : A) (ws : List A) → first_of test zs ≡ Some (w, ws) → IsFirst test zs w ws)
-      → ◌≡◌ {A = Option (A × List A)} (if b then Some (z, zs) else option_map (λ (r : A × List A). (r.0, z ∷ r.1)) (first_of test zs)) (Some (x, ys)) → IsFirst test (z ∷ zs) x ys
+  first_by : (z : A) (zs : List A) (x : A) (ys : List A) (b : Bool) → test z ≡ b → ((w : A) (ws : List A) → first_passing test zs ≡ Some (w, ws) → IsFirst test zs w ws)
+      → ◌≡◌ {A = Option (A × List A)} (if b then Some (z, zs) else option_map (λ (r : A × List A). (r.0, z ∷ r.1)) (first_passing test zs)) (Some (x, ys)) → IsFirst test (z ∷ zs) x ys
   first_by z zs x ys true is later e =
       let p : ◌≡◌ {A = A × List A} (z, zs) (x, ys) = cc in
       let same : z ≡ x = ap (λ (r : A × List A). r.0) p in
       let rest : zs ≡ ys = ap (λ (r : A × List A). r.1) p in
       subst (λ l. IsFirst test (z ∷ zs) x l) rest (subst (λ y. IsFirst test (z ∷ zs) y zs) same (here z zs is))
-  first_by z zs x ys false is later e = first_behind z zs x ys (first_of test zs) later e
+  first_by z zs x ys false is later e = first_behind z zs x ys (first_passing test zs) later e
 
-  pub first_is : (xs : List A) (x : A) (ys : List A) → first_of test xs ≡ Some (x, ys) → IsFirst test xs x ys
+  pub first_is : (xs : List A) (x : A) (ys : List A) → first_passing test xs ≡ Some (x, ys) → IsFirst test xs x ys
   first_is [] x ys e = cc
   first_is (z ∷ zs) x ys e = first_by z zs x ys (test z) refl (first_is zs) e
 
@@ -64,14 +64,14 @@ module _ {A : Type 0} (test : A → Bool) where
   none_behind z None e = refl
   none_behind z (Some r) e = cc
 
-  none_by : (z : A) (zs : List A) (b : Bool) → test z ≡ b → ((y : A) → IsOneOf y zs → first_of test zs ≡ None → test y ≡ false)
-      → ◌≡◌ {A = Option (A × List A)} (if b then Some (z, zs) else option_map (λ (r : A × List A). (r.0, z ∷ r.1)) (first_of test zs)) None → (y : A) → IsOneOf y (z ∷ zs) → test y ≡ false
+  none_by : (z : A) (zs : List A) (b : Bool) → test z ≡ b → ((y : A) → IsOneOf y zs → first_passing test zs ≡ None → test y ≡ false)
+      → ◌≡◌ {A = Option (A × List A)} (if b then Some (z, zs) else option_map (λ (r : A × List A). (r.0, z ∷ r.1)) (first_passing test zs)) None → (y : A) → IsOneOf y (z ∷ zs) → test y ≡ false
   none_by z zs true is later e y h = cc
   none_by z zs false is later e y (inl same) = subst (λ w. test w ≡ false) (sym same) is
-  none_by z zs false is later e y (inr h) = later y h (none_behind z (first_of test zs) e)
+  none_by z zs false is later e y (inr h) = later y h (none_behind z (first_passing test zs) e)
 
   -- none passes
-  pub first_none : (xs : List A) (y : A) → IsOneOf y xs → first_of test xs ≡ None → test y ≡ false
+  pub first_none : (xs : List A) (y : A) → IsOneOf y xs → first_passing test xs ≡ None → test y ≡ false
   first_none [] y h e = absurd h
   first_none (z ∷ zs) y h e = none_by z zs (test z) refl (first_none zs) e y h
 
@@ -148,15 +148,15 @@ module _ {A : Type 0} (waits : A → A → Bool) where
     count = omega (arith, t.count, f.fewer);
   }
 
-  turns_by : (n : ℕ) (xs : List A) (o : Option (A × List A)) → first_of (free xs) xs ≡ o → ((ys : List A) → AreTurns n ys (turns waits n ys).0 (turns waits n ys).1)
-      → (let all : List A × List A = elim o [ None ↦ ([], xs) | Some r ↦ (let rest = turns waits n r.1 in (r.0 ∷ rest.0, rest.1)) ] in AreTurns (suc n) xs all.0 all.1)
+  turns_by : (n : ℕ) (xs : List A) (o : Option (A × List A)) → first_passing (free xs) xs ≡ o → ((ys : List A) → AreTurns n ys (turn_order waits n ys).0 (turn_order waits n ys).1)
+      → (let all : List A × List A = elim o [ None ↦ ([], xs) | Some r ↦ (let rest = turn_order waits n r.1 in (r.0 ∷ rest.0, rest.1)) ] in AreTurns (suc n) xs all.0 all.1)
   turns_by n xs None e later = no_turn (suc n) xs (λ le x h. any_one (waits x) xs (not_false (list_any (waits x) xs) (first_none (free xs) xs x h e)))
-  turns_by n xs (Some (x, ys)) e later = turn n xs x ys (turns waits n ys).0 (turns waits n ys).1 (first_is (free xs) xs x ys e) (later ys)
+  turns_by n xs (Some (x, ys)) e later = turn n xs x ys (turn_order waits n ys).0 (turn_order waits n ys).1 (first_is (free xs) xs x ys e) (later ys)
 
   none_in_none : (xs : List A) → length xs ≤ 0 → (x : A) → IsOneOf x xs → ⊥
   none_in_none [] le x h = h
   none_in_none (y ∷ ys) le x h = absurd (omega (arith, le))
 
-  pub turns_are : (n : ℕ) (xs : List A) → AreTurns n xs (turns waits n xs).0 (turns waits n xs).1
+  pub turns_are : (n : ℕ) (xs : List A) → AreTurns n xs (turn_order waits n xs).0 (turn_order waits n xs).1
   turns_are zero xs = no_turn zero xs (λ le x h. absurd (none_in_none xs le x h))
-  turns_are (suc n) xs = turns_by n xs (first_of (free xs) xs) refl (turns_are n)
+  turns_are (suc n) xs = turns_by n xs (first_passing (free xs) xs) refl (turns_are n)

@@ -8,7 +8,7 @@ use Rattle.std.proofs.lemmas.List.Sums.{length-filter}
 use Rattle.ws_reach.specs.Reach.{Reaches, Walks}
 use Rattle.ws_reach.proofs.Closure.{IsOneOf}
 use Rattle.go_typed.specs.Trees.{Initialization, Package}
-use Rattle.go_init.specs.Turns.{first_of, turns}
+use Rattle.go_init.specs.Turns.{first_passing, turn_order}
 use Rattle.go_init.specs.Variables.{sets, referred, depends, variable_order}
 use Rattle.go_init.proofs.Circles.{circle}
 use Rattle.go_init.proofs.Depends.{Leads, depends_is}
@@ -42,16 +42,16 @@ module _ {A : Type 0} (kind : A → Bool) where
         let all : count_by kind (z ∷ zs) ≡ one w + count_by kind (z ∷ ws) = omega (arith, counted z zs, counted z ws, l) in
         subst (λ v. count_by kind (z ∷ zs) ≡ one v + count_by kind ys) same (subst (λ (v : List A). count_by kind (z ∷ zs) ≡ one w + count_by kind v) rest all)
 
-    by_test : (z : A) (zs : List A) (b : Bool) → ((w : A) (ws : List A) → first_of test zs ≡ Some (w, ws) → count_by kind zs ≡ one w + count_by kind ws) → (x : A) (ys : List A)
-        → ◌≡◌ {A = Option (A × List A)} (if b then Some (z, zs) else option_map (λ (r : A × List A). (r.0, z ∷ r.1)) (first_of test zs)) (Some (x, ys)) → count_by kind (z ∷ zs) ≡ one x + count_by kind ys
+    by_test : (z : A) (zs : List A) (b : Bool) → ((w : A) (ws : List A) → first_passing test zs ≡ Some (w, ws) → count_by kind zs ≡ one w + count_by kind ws) → (x : A) (ys : List A)
+        → ◌≡◌ {A = Option (A × List A)} (if b then Some (z, zs) else option_map (λ (r : A × List A). (r.0, z ∷ r.1)) (first_passing test zs)) (Some (x, ys)) → count_by kind (z ∷ zs) ≡ one x + count_by kind ys
     by_test z zs true later x ys e =
         let p : ◌≡◌ {A = A × List A} (z, zs) (x, ys) = cc in
         let same : z ≡ x = ap (λ (r : A × List A). r.0) p in
         let rest : zs ≡ ys = ap (λ (r : A × List A). r.1) p in
         subst (λ v. count_by kind (z ∷ zs) ≡ one v + count_by kind ys) same (subst (λ (v : List A). count_by kind (z ∷ zs) ≡ one z + count_by kind v) rest (counted z zs))
-    by_test z zs false later x ys e = behind z zs (first_of test zs) later x ys e
+    by_test z zs false later x ys e = behind z zs (first_passing test zs) later x ys e
 
-    first_counted : (xs : List A) (x : A) (ys : List A) → first_of test xs ≡ Some (x, ys) → count_by kind xs ≡ one x + count_by kind ys
+    first_counted : (xs : List A) (x : A) (ys : List A) → first_passing test xs ≡ Some (x, ys) → count_by kind xs ≡ one x + count_by kind ys
     first_counted [] x ys e = cc
     first_counted (z ∷ zs) x ys e = by_test z zs (test z) (first_counted zs) x ys e
 
@@ -59,17 +59,17 @@ module _ {A : Type 0} (kind : A → Bool) where
     abbrev free : List A → A → Bool
     free xs x = not (list_any (waits x) xs)
 
-    counted_by : (n : ℕ) (xs : List A) (o : Option (A × List A)) → first_of (free xs) xs ≡ o → ((ys : List A) → count_by kind (turns waits n ys).0 + count_by kind (turns waits n ys).1 ≡ count_by kind ys)
-        → (let all : List A × List A = elim o [ None ↦ ([], xs) | Some r ↦ (let rest = turns waits n r.1 in (r.0 ∷ rest.0, rest.1)) ] in count_by kind all.0 + count_by kind all.1 ≡ count_by kind xs)
+    counted_by : (n : ℕ) (xs : List A) (o : Option (A × List A)) → first_passing (free xs) xs ≡ o → ((ys : List A) → count_by kind (turn_order waits n ys).0 + count_by kind (turn_order waits n ys).1 ≡ count_by kind ys)
+        → (let all : List A × List A = elim o [ None ↦ ([], xs) | Some r ↦ (let rest = turn_order waits n r.1 in (r.0 ∷ rest.0, rest.1)) ] in count_by kind all.0 + count_by kind all.1 ≡ count_by kind xs)
     counted_by n xs None e later = none_counted xs
     counted_by n xs (Some (x, ys)) e later =
         let l = later ys in
         let f = first_counted (free xs) xs x ys e in
-        omega (arith, l, f, counted x (turns waits n ys).0)
+        omega (arith, l, f, counted x (turn_order waits n ys).0)
 
-    pub turns_counted : (n : ℕ) (xs : List A) → count_by kind (turns waits n xs).0 + count_by kind (turns waits n xs).1 ≡ count_by kind xs
+    pub turns_counted : (n : ℕ) (xs : List A) → count_by kind (turn_order waits n xs).0 + count_by kind (turn_order waits n xs).1 ≡ count_by kind xs
     turns_counted zero xs = none_counted xs
-    turns_counted (suc n) xs = counted_by n xs (first_of (free xs) xs) refl (turns_counted n)
+    turns_counted (suc n) xs = counted_by n xs (first_passing (free xs) xs) refl (turns_counted n)
 
 -- ---- dependence is transitive
 

@@ -16,13 +16,13 @@ abbrev pub node_of : Node → nodes.Node
 node_of n = record { names = map (λ x. x.now) n.names.items; references = map string_bytes n.references.now }
 
 -- an error says so of a package: something is left over, the first of it there; or memory ran out
-abbrev pub IsTold : Package → InitError → Type 0
-IsTold p (Cycle file place) = IsCycleAt p (string_bytes file) place
-IsTold p Memory = ⊤
+abbrev pub IsInitError : Package → InitError → Type 0
+IsInitError p (Cycle file place) = IsCycleAt p (string_bytes file) place
+IsInitError p Memory = ⊤
 
 -- the numbers under a name
-abbrev pub listed : Option (Vec ℕ) → List ℕ
-listed o = elim o [ None ↦ [] | Some v ↦ v.items ]
+abbrev pub listed_numbers : Option (Vec ℕ) → List ℕ
+listed_numbers o = elim o [ None ↦ [] | Some v ↦ v.items ]
 
 abbrev pub bearers : BTreeMap (Bor (List ℕ)) (Vec ℕ) → Bor (List ℕ) → List ℕ
-bearers m x = listed (get (λ a b. slice_cmp nat_cmp a.now b.now) m x)
+bearers m x = listed_numbers (get (λ a b. slice_cmp nat_cmp a.now b.now) m x)

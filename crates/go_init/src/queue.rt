@@ -1,5 +1,5 @@
 //! Packages that aren't in the order yet.
-ghost use Rattle.std.specs.Prelude.{◌≡◌, ◌<◌, ◌≤◌, ◌∷◌, ◌⊎◌, ◌↔◌, ℕ, [], true, false, length, replicate, slice_set, IfOk, IfSome, IfNone, IsTrue, OnOk, Some};
+ghost use Rattle.std.specs.Prelude.{◌≡◌, ◌<◌, ◌∷◌, ◌⊎◌, ◌↔◌, ℕ, [], true, false, length, replicate, slice_set, IfOk, IfSome, IfNone, IsTrue, OnOk, Some};
 ghost use Rattle.std.specs.List.{Contains, slice_get};
 ghost use Rattle.ws_reach.specs.Reach.{rows_of};
 ghost use Rattle.go_init.specs.declared.queue.Waiter.{Waiter as AWaiter};

@@ -6,7 +6,7 @@ ghost use Rattle.ws_reach.specs.Worklist.{is_marked};
 ghost use Rattle.go_text.specs.declared.place.Place.{Place as APlace};
 ghost use Rattle.go_typed.specs.Views.{initialization_of, typed_of};
 ghost use Rattle.go_init.specs.Variables.{variable_order, in_order};
-ghost use Rattle.go_init.specs.Views.{IsTold};
+ghost use Rattle.go_init.specs.Views.{IsInitError};
 ghost use Rattle.go_init.specs.declared.error.InitError.TheVariants as errors;
 
 use crate::error::InitError;
@@ -24,7 +24,7 @@ use ws_reach::node_at;
 pub fn variable_order(alloc: Global, typed: &Typed) -> Result<Vec<usize>, InitError>
     ensures order { IfOk result (λ order. in_order (typed_of typed.now) order.items ≡ (variable_order (typed_of typed.now)).0) }
     ensures whole { IfOk result (λ order. (variable_order (typed_of typed.now)).1 ≡ []) }
-    ensures cycle { IfErr result (IsTold (typed_of typed.now)) }
+    ensures cycle { IfErr result (IsInitError (typed_of typed.now)) }
 {
     let order = order_of(alloc, typed)?;
     match first_missing(alloc, order.as_slice(), typed.initializations.len())? {

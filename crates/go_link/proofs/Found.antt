@@ -13,7 +13,7 @@ use Rattle.go_symbol.specs.Symbols.{Symbol, same_symbol}
 use Rattle.go_code.specs.declared.instr.Instr.TheVariants.{Calls as By_call}
 use Rattle.go_code.specs.declared.instr.CallInstr.TheVariants.{Call}
 use Rattle.go_link.specs.declared.link.LinkError.TheVariants.{NoMain, NameMissing, EditionsDiffer}
-use Rattle.go_link.specs.Links.{code_of, editions_differ, has_main, has_main_in, is_missing, last_package, link_refusal, name_missing, linked_function, variables, names, number_of, symbol_of}
+use Rattle.go_link.specs.Links.{code_of, editions_differ, has_main, has_main_in, is_missing_symbol, last_object, link_refusal, name_missing, linked_function, variables, function_symbols, function_number, object_symbol}
 use Rattle.go_link.specs.Found.{IsDeclared, Found}
 
 -- ---- indexes
@@ -47,7 +47,7 @@ abbrev entries : List Object → List (Object × PackageFunction)
 entries packages = flat_map (λ o. map (λ f. (o, f)) o.functions) packages
 
 abbrev symbol_in : Object × PackageFunction → Symbol
-symbol_in e = symbol_of e.0 e.1.name
+symbol_in e = object_symbol e.0 e.1.name
 
 map_pairs : {Y : Type 0} (g : Object × PackageFunction → Y) (o : Object) (fs : List PackageFunction) → map g (map (λ f. (o, f)) fs) ≡ map (λ f. g (o, f)) fs
 map_pairs g o [] = refl
@@ -97,25 +97,25 @@ same_is s t true true a b e =
 same_is s t true false a b e = cc
 same_is s t false b' a b e = cc
 
-found_with : (packages : List Object) (s item : Symbol) (o : Option (Object × PackageFunction)) → slice_get (entries packages) (number_of (names packages) s) ≡ o → option_map symbol_in o ≡ Some item → item ≡ s → Found packages s
+found_with : (packages : List Object) (s item : Symbol) (o : Option (Object × PackageFunction)) → slice_get (entries packages) (function_number (function_symbols packages) s) ≡ o → option_map symbol_in o ≡ Some item → item ≡ s → Found packages s
 found_with packages s item None is e same = cc
 found_with packages s item (Some entry) is e same =
     let named : symbol_in entry ≡ item = cc in
     record {
       object = entry.0;
       function = entry.1;
-      declared = entry_declared packages (number_of (names packages) s) entry is;
+      declared = entry_declared packages (function_number (function_symbols packages) s) entry is;
       named = named ∙ same;
-      there = ap (λ l. slice_get l (number_of (names packages) s)) (sym (map_entries (λ e. linked_function (names packages) (variables packages) e.1) packages))
-          ∙ slice_get-map (λ e. linked_function (names packages) (variables packages) e.1) (entries packages) (number_of (names packages) s)
-          ∙ ap (option_map (λ e. linked_function (names packages) (variables packages) e.1)) is;
+      there = ap (λ l. slice_get l (function_number (function_symbols packages) s)) (sym (map_entries (λ e. linked_function (function_symbols packages) (variables packages) e.1) packages))
+          ∙ slice_get-map (λ e. linked_function (function_symbols packages) (variables packages) e.1) (entries packages) (function_number (function_symbols packages) s)
+          ∙ ap (option_map (λ e. linked_function (function_symbols packages) (variables packages) e.1)) is;
     }
 
 -- where a symbol names a function, its number is that of a function with its path and its name
-pub found_by : (packages : List Object) (s : Symbol) → list_any (same_symbol s) (names packages) ≡ true → Found packages s
+pub found_by : (packages : List Object) (s : Symbol) → list_any (same_symbol s) (function_symbols packages) ≡ true → Found packages s
 found_by packages s any =
-    let first = first_at (same_symbol s) (names packages) any in
-    let k : ℕ = number_of (names packages) s in
+    let first = first_at (same_symbol s) (function_symbols packages) any in
+    let k : ℕ = function_number (function_symbols packages) s in
     let there : option_map symbol_in (slice_get (entries packages) k) ≡ Some first.item =
     sym (slice_get-map symbol_in (entries packages) k) ∙ ap (λ l. slice_get l k) (map_entries symbol_in packages) ∙ first.there in
     found_with packages s first.item (slice_get (entries packages) k) refl there
@@ -144,12 +144,12 @@ any_in p f (y ∷ ys) (suc k) x is passes =
     list_any-append p (f y) (flat_map f ys) ∙ or_right (list_any p (f y)) (list_any p (flat_map f ys)) (any_in p f ys k x is passes)
 
 -- each function of a package has a number
-pub declared_found : (packages : List Object) (o : Object) (f : PackageFunction) → IsDeclared packages o f → Found packages (symbol_of o f.name)
+pub declared_found : (packages : List Object) (o : Object) (f : PackageFunction) → IsDeclared packages o f → Found packages (object_symbol o f.name)
 declared_found packages o f d =
-    found_by packages (symbol_of o f.name)
-    (any_in (same_symbol (symbol_of o f.name)) (λ o. map (λ f. symbol_of o f.name) o.functions) packages d.package_index o d.package_is
-    (any_at (same_symbol (symbol_of o f.name)) (map (λ f. symbol_of o f.name) o.functions) d.index (symbol_of o f.name)
-    (slice_get-map (λ f. symbol_of o f.name) o.functions d.index ∙ ap (option_map (λ f. symbol_of o f.name)) d.is) (same_itself (symbol_of o f.name))))
+    found_by packages (object_symbol o f.name)
+    (any_in (same_symbol (object_symbol o f.name)) (λ o. map (λ f. object_symbol o f.name) o.functions) packages d.package_index o d.package_is
+    (any_at (same_symbol (object_symbol o f.name)) (map (λ f. object_symbol o f.name) o.functions) d.index (object_symbol o f.name)
+    (slice_get-map (λ f. object_symbol o f.name) o.functions d.index ∙ ap (option_map (λ f. object_symbol o f.name)) d.is) (same_itself (object_symbol o f.name))))
 
 pub not_missing : (b c : Bool) → b ≡ false → (c ≡ true → b ≡ true) → c ≡ false
 not_missing b true e h = cc (h refl)
@@ -162,10 +162,10 @@ not_false false e = cc
 -- each function that an instruction of a linked package calls has a number
 pub called_found : (packages : List Object) (i j : ℕ) (o : Object) (s : Symbol) → name_missing packages ≡ false → slice_get packages i ≡ Some o → slice_get (code_of o) j ≡ Some (By_call (Call s)) → Found packages s
 called_found packages i j o s whole at is =
-    let missing : is_missing (names packages) (variables packages) (By_call (Call s)) ≡ false =
-    not_missing (name_missing packages) (is_missing (names packages) (variables packages) (By_call (Call s))) whole
-    (λ h. any_in (is_missing (names packages) (variables packages)) code_of packages i o at (any_at (is_missing (names packages) (variables packages)) (code_of o) j (By_call (Call s)) is h)) in
-    found_by packages s (not_false (list_any (same_symbol s) (names packages)) missing)
+    let missing : is_missing_symbol (function_symbols packages) (variables packages) (By_call (Call s)) ≡ false =
+    not_missing (name_missing packages) (is_missing_symbol (function_symbols packages) (variables packages) (By_call (Call s))) whole
+    (λ h. any_in (is_missing_symbol (function_symbols packages) (variables packages)) code_of packages i o at (any_at (is_missing_symbol (function_symbols packages) (variables packages)) (code_of o) j (By_call (Call s)) is h)) in
+    found_by packages s (not_false (list_any (same_symbol s) (function_symbols packages)) missing)
 
 -- ---- main
 
@@ -197,10 +197,10 @@ allowed_if false b c e = cc
 pub allowed : (packages : List Object) → link_refusal packages ≡ None → (has_main packages ≡ true) × (name_missing packages ≡ false) × (editions_differ packages ≡ false)
 allowed packages e = allowed_if (has_main packages) (name_missing packages) (editions_differ packages) e
 
-pub main_found : (packages : List Object) (o : Object) → has_main packages ≡ true → last_package packages ≡ Some o → Found packages (symbol_of o (codes "main"))
+pub main_found : (packages : List Object) (o : Object) → has_main packages ≡ true → last_object packages ≡ Some o → Found packages (object_symbol o (codes "main"))
 main_found packages o main last =
     let parts : has_main_in (Some o) ≡ true = ap has_main_in (sym last) ∙ main in
     let h = any_there (λ f. bytes_eq f.name (codes "main")) o.functions (and_right (bytes_eq o.name (codes "main")) (list_any (λ f. bytes_eq f.name (codes "main")) o.functions) parts) in
     let named : h.item.name ≡ codes "main" = (bytes_eq-Decides h.item.name (codes "main")).0 h.passes in
     let declared : IsDeclared packages o h.item = record { package_index = length packages - 1; package_is = last; index = h.index; is = h.is } in
-    subst (λ n. Found packages (symbol_of o n)) named (declared_found packages o h.item declared)
+    subst (λ n. Found packages (object_symbol o n)) named (declared_found packages o h.item declared)

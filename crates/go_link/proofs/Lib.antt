@@ -1,5 +1,5 @@
-pub mod Firsts
+mod Firsts
 pub mod Found
-pub mod Linked
-pub mod Numbered
-pub mod Placed
+mod Linked
+mod Numbered
+mod Placed

@@ -15,8 +15,8 @@ use Rattle.std.proofs.lemmas.Iterator.Adapters.{position_from-zero}
 use Rattle.std.proofs.lemmas.Map.Text.{is_eq-slice_cmp}
 use Rattle.std.proofs.lemmas.Slice.Eq.{bytes_eq-Decides}
 use Rattle.go_symbol.specs.Symbols.{Symbol, same_symbol}
-use Rattle.go_link.specs.Links.{number_of}
-use Rattle.go_link.specs.Named.{Name, Numbers, name_cmp, symbol_at}
+use Rattle.go_link.specs.Links.{function_number}
+use Rattle.go_link.specs.Named.{SymbolParts, Numbers, name_cmp, symbol_at}
 
 -- ---- symbols that are the same
 
@@ -45,7 +45,7 @@ then_eq Less b = refl
 then_eq Equal b = refl
 then_eq Greater b = refl
 
-pub cmp_same : (m n : Name) → is_eq (name_cmp m n) ≡ same_symbol (symbol_at m) (symbol_at n)
+pub cmp_same : (m n : SymbolParts) → is_eq (name_cmp m n) ≡ same_symbol (symbol_at m) (symbol_at n)
 cmp_same m n =
     then_eq (slice_cmp nat_cmp m.0.now n.0.now) (slice_cmp nat_cmp m.1.now n.1.now)
     ∙ ap (λ b. b && is_eq (slice_cmp nat_cmp m.1.now n.1.now)) (is_eq-slice_cmp m.0.now n.0.now)
@@ -112,11 +112,11 @@ added xs s t there =
 
 -- ---- maps
 
-pub kept_numbers : (m : tree.BTreeMap Name ℕ) (xs : List Symbol) (t : Name) → Numbers m xs → is_some (tree.get name_cmp m t) ≡ true → Numbers m (xs ++ symbol_at t ∷ [])
+pub kept_numbers : (m : tree.BTreeMap SymbolParts ℕ) (xs : List Symbol) (t : SymbolParts) → Numbers m xs → is_some (tree.get name_cmp m t) ≡ true → Numbers m (xs ++ symbol_at t ∷ [])
 kept_numbers m xs t h there = λ n.
     h n ∙ sym (kept xs (symbol_at n) (symbol_at t) (ap is_some (sym (h t)) ∙ there))
 
-pub added_numbers : (m m' : tree.BTreeMap Name ℕ) (xs : List Symbol) (t : Name) (k : ℕ) → Numbers m xs → is_some (tree.get name_cmp m t) ≡ false → k ≡ length xs → ((n : Name) → tree.get name_cmp m' n ≡ cond (is_eq (name_cmp t n)) (Some k) (tree.get name_cmp m n)) → Numbers m' (xs ++ symbol_at t ∷ [])
+pub added_numbers : (m m' : tree.BTreeMap SymbolParts ℕ) (xs : List Symbol) (t : SymbolParts) (k : ℕ) → Numbers m xs → is_some (tree.get name_cmp m t) ≡ false → k ≡ length xs → ((n : SymbolParts) → tree.get name_cmp m' n ≡ cond (is_eq (name_cmp t n)) (Some k) (tree.get name_cmp m n)) → Numbers m' (xs ++ symbol_at t ∷ [])
 added_numbers m m' xs t k h there is updates = λ n.
     updates n
     ∙ ap (λ b. cond b (Some k) (tree.get name_cmp m n)) (cmp_same t n)
@@ -142,8 +142,8 @@ none_if : (b : Bool) (k n : ℕ) → nat_lt k n ≡ b → k ≤ n → cond b (So
 none_if true k n e le h = cc
 none_if false k n e le h = let ge : n ≤ k = ltb-false k n e in omega arith
 
-pub none_behind : (names : List Symbol) (s : Symbol) (n : ℕ) → n ≡ length names → position (same_symbol s) names ≡ None → n ≡ number_of names s
-none_behind names s n is h = is ∙ none_if (nat_lt (number_of names s) (length names)) (number_of names s) (length names) refl (prefix_len-le-length (λ t. not (same_symbol s t)) names) h
+pub none_behind : (names : List Symbol) (s : Symbol) (n : ℕ) → n ≡ length names → position (same_symbol s) names ≡ None → n ≡ function_number names s
+none_behind names s n is h = is ∙ none_if (nat_lt (function_number names s) (length names)) (function_number names s) (length names) refl (prefix_len-le-length (λ t. not (same_symbol s t)) names) h
 
 -- a name is missing that has no index
 missing_if : (b c : Bool) → b ≡ not c → c ≡ not b

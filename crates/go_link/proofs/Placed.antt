@@ -14,8 +14,8 @@ use Rattle.go_code.specs.Packages.{Object, PackageVariable}
 use Rattle.go_symbol.specs.Symbols.{Symbol, same_symbol}
 use Rattle.go_code.specs.declared.instr.AccessInstr.{AccessInstr}
 use Rattle.go_code.specs.declared.instr.Instr.TheVariants.{Global as On_globals}
-use Rattle.go_code.specs.Referred.{place_of}
-use Rattle.go_link.specs.Links.{Held, code_of, is_missing, name_missing, names, place_in, symbol_of, variables, zeros_of}
+use Rattle.go_code.specs.Referred.{reference_of}
+use Rattle.go_link.specs.Links.{LinkedVariable, code_of, is_missing_symbol, name_missing, function_symbols, first_cell_of, object_symbol, variables, zero_cells}
 use Rattle.go_link.specs.Found.{Placed}
 use Rattle.go_link.proofs.Found.{any_at, any_in, not_false, not_missing}
 
@@ -40,13 +40,13 @@ Entry = Object × PackageVariable
 abbrev entries : List Object → List Entry
 entries packages = flat_map (λ o. map (λ v. (o, v)) o.variables) packages
 
-abbrev held_by : Entry → Held
-held_by e = (symbol_of e.0 e.1.name, length e.1.zero)
+abbrev held_by : Entry → LinkedVariable
+held_by e = (object_symbol e.0 e.1.name, length e.1.zero)
 
 abbrev zero_by : Entry → List Cell
 zero_by e = e.1.zero
 
-held_each : (o : Object) (vs : List PackageVariable) → map (λ (v : PackageVariable). (symbol_of o v.name, length v.zero)) vs ≡ map held_by (map (λ v. (o, v)) vs)
+held_each : (o : Object) (vs : List PackageVariable) → map (λ (v : PackageVariable). (object_symbol o v.name, length v.zero)) vs ≡ map held_by (map (λ v. (o, v)) vs)
 held_each o [] = refl
 held_each o (v ∷ vs) = ap (λ l. held_by (o, v) ∷ l) (held_each o vs)
 
@@ -61,10 +61,10 @@ zeros_each : (o : Object) (vs : List PackageVariable) → flat_map (λ (v : Pack
 zeros_each o [] = refl
 zeros_each o (v ∷ vs) = ap (λ l. v.zero ++ l) (zeros_each o vs)
 
-zeros_all : (packages : List Object) → flat_map zeros_of packages ≡ flat_map zero_by (entries packages)
+zeros_all : (packages : List Object) → flat_map zero_cells packages ≡ flat_map zero_by (entries packages)
 zeros_all [] = refl
 zeros_all (o ∷ packages) =
-    ap (λ l. l ++ flat_map zeros_of packages) (zeros_each o o.variables)
+    ap (λ l. l ++ flat_map zero_cells packages) (zeros_each o o.variables)
     ∙ ap (λ l. flat_map zero_by (map (λ v. (o, v)) o.variables) ++ l) (zeros_all packages)
     ∙ sym (flat_map-append zero_by (map (λ v. (o, v)) o.variables) (entries packages))
 
@@ -99,11 +99,11 @@ record There (es : List Entry) (s : Symbol) : Type 0 where
   index : ℕ
   entry : Entry
   is : slice_get es index ≡ Some entry
-  named : symbol_of entry.0 entry.1.name ≡ s
+  named : object_symbol entry.0 entry.1.name ≡ s
   before : List Cell
   after : List Cell
   cells : flat_map zero_by es ≡ before ++ (entry.1.zero ++ after)
-  place : length before ≡ place_in (map held_by es) s
+  place : length before ≡ first_cell_of (map held_by es) s
 
 both : (a b : Bool) → (a && b) ≡ true → (a ≡ true) × (b ≡ true)
 both true true e = (refl, refl)
@@ -116,16 +116,16 @@ same_is s t e =
     sym (ap (λ (p : List ℕ). record { path = p; name = s.name }) ((bytes_eq-Decides s.path t.path).0 parts.0)
     ∙ ap (λ (n : List ℕ). record { path = t.path; name = n }) ((bytes_eq-Decides s.name t.name).0 parts.1))
 
-there_by : (e : Entry) (es : List Entry) (s : Symbol) (b : Bool) → same_symbol s (symbol_of e.0 e.1.name) ≡ b → (b || list_any (λ v. same_symbol s v.0) (map held_by es)) ≡ true → (list_any (λ v. same_symbol s v.0) (map held_by es) ≡ true → There es s) → There (e ∷ es) s
+there_by : (e : Entry) (es : List Entry) (s : Symbol) (b : Bool) → same_symbol s (object_symbol e.0 e.1.name) ≡ b → (b || list_any (λ v. same_symbol s v.0) (map held_by es)) ≡ true → (list_any (λ v. same_symbol s v.0) (map held_by es) ≡ true → There es s) → There (e ∷ es) s
 there_by e es s true is any later = record {
   index = 0;
   entry = e;
   is = refl;
-  named = same_is s (symbol_of e.0 e.1.name) is;
+  named = same_is s (object_symbol e.0 e.1.name) is;
   before = [];
   after = flat_map zero_by es;
   cells = refl;
-  place = sym (ap (λ b. if b then 0 else length e.1.zero + place_in (map held_by es) s) is);
+  place = sym (ap (λ b. if b then 0 else length e.1.zero + first_cell_of (map held_by es) s) is);
 }
 there_by e es s false is any later =
     let rest = later any in
@@ -139,12 +139,12 @@ there_by e es s false is any later =
       cells = ap (λ l. e.1.zero ++ l) rest.cells ∙ sym (append_assoc e.1.zero rest.before (rest.entry.1.zero ++ rest.after));
       place = length-append e.1.zero rest.before
           ∙ ap (λ n. length e.1.zero + n) rest.place
-          ∙ sym (ap (λ b. if b then 0 else length e.1.zero + place_in (map held_by es) s) is);
+          ∙ sym (ap (λ b. if b then 0 else length e.1.zero + first_cell_of (map held_by es) s) is);
     }
 
 there : (es : List Entry) (s : Symbol) → list_any (λ v. same_symbol s v.0) (map held_by es) ≡ true → There es s
 there [] s any = cc
-there (e ∷ es) s any = there_by e es s (same_symbol s (symbol_of e.0 e.1.name)) refl any (there es s)
+there (e ∷ es) s any = there_by e es s (same_symbol s (object_symbol e.0 e.1.name)) refl any (there es s)
 
 -- a symbol of one of the variables
 pub placed_by : (packages : List Object) (s : Symbol) → list_any (λ v. same_symbol s v.0) (variables packages) ≡ true → Placed packages s
@@ -159,15 +159,15 @@ placed_by packages s any =
       index = o.index;
       is = o.is;
       named = t.named;
-      there = ap (λ n. cells_at (flat_map zeros_of packages) n (length t.entry.1.zero)) (ap (λ l. place_in l s) (held_all packages) ∙ sym t.place)
+      there = ap (λ n. cells_at (flat_map zero_cells packages) n (length t.entry.1.zero)) (ap (λ l. first_cell_of l s) (held_all packages) ∙ sym t.place)
           ∙ ap (λ l. cells_at l (length t.before) (length t.entry.1.zero)) (zeros_all packages ∙ t.cells)
           ∙ row_at t.before t.entry.1.zero t.after;
     }
 
 -- each variable that an instruction of a linked package reads or changes has a place
-pub accessed_placed : (packages : List Object) (i j : ℕ) (o : Object) (a : AccessInstr Symbol) → name_missing packages ≡ false → slice_get packages i ≡ Some o → slice_get (code_of o) j ≡ Some (On_globals a) → Placed packages (place_of a)
+pub accessed_placed : (packages : List Object) (i j : ℕ) (o : Object) (a : AccessInstr Symbol) → name_missing packages ≡ false → slice_get packages i ≡ Some o → slice_get (code_of o) j ≡ Some (On_globals a) → Placed packages (reference_of a)
 accessed_placed packages i j o a whole at is =
-    let missing : is_missing (names packages) (variables packages) (On_globals a) ≡ false =
-    not_missing (name_missing packages) (is_missing (names packages) (variables packages) (On_globals a)) whole
-    (λ h. any_in (is_missing (names packages) (variables packages)) code_of packages i o at (any_at (is_missing (names packages) (variables packages)) (code_of o) j (On_globals a) is h)) in
-    placed_by packages (place_of a) (not_false (list_any (λ v. same_symbol (place_of a) v.0) (variables packages)) missing)
+    let missing : is_missing_symbol (function_symbols packages) (variables packages) (On_globals a) ≡ false =
+    not_missing (name_missing packages) (is_missing_symbol (function_symbols packages) (variables packages) (On_globals a)) whole
+    (λ h. any_in (is_missing_symbol (function_symbols packages) (variables packages)) code_of packages i o at (any_at (is_missing_symbol (function_symbols packages) (variables packages)) (code_of o) j (On_globals a) is h)) in
+    placed_by packages (reference_of a) (not_false (list_any (λ v. same_symbol (reference_of a) v.0) (variables packages)) missing)

@@ -13,43 +13,43 @@ use Rattle.go_code.specs.declared.instr.Instr.{Instr}
 use Rattle.go_code.specs.declared.instr.Instr.TheVariants.{Global as On_globals, Calls as By_call}
 use Rattle.go_code.specs.declared.instr.CallInstr.{CallInstr}
 use Rattle.go_code.specs.declared.instr.CallInstr.TheVariants.{Call, Return}
-use Rattle.go_code.specs.Functions.{Function, Setup}
+use Rattle.go_code.specs.Functions.{FunctionCode, Setup}
 use Rattle.go_code.specs.Images.{Image}
 use Rattle.go_code.specs.Packages.{Object, PackageFunction}
-use Rattle.go_code.specs.Referred.{Changes, place_of, refer_function, refer_setup}
+use Rattle.go_code.specs.Referred.{Changes, reference_of, refer_function, refer_setup}
 use Rattle.go_symbol.specs.Symbols.{Symbol, same_symbol}
 use Rattle.go_link.specs.declared.link.LinkError.{LinkError}
 use Rattle.go_link.specs.declared.link.LinkError.TheVariants.{Memory, NoMain, NameMissing, EditionsDiffer}
 
 -- the objects at these indexes
-abbrev pub in_order : List Object → List ℕ → List Object
-in_order objects order = filter_map (slice_get objects) order
+abbrev pub objects_in_order : List Object → List ℕ → List Object
+objects_in_order objects order = filter_map (slice_get objects) order
 
 -- ---- names
 
-abbrev pub symbol_of : Object → List ℕ → Symbol
-symbol_of o name = record { path = o.path; name = name }
+abbrev pub object_symbol : Object → List ℕ → Symbol
+object_symbol o name = record { path = o.path; name = name }
 
 -- the functions, one package's behind another's, each package's in declaration order
-abbrev pub names : List Object → List Symbol
-names packages = flat_map (λ o. map (λ f. symbol_of o f.name) o.functions) packages
+abbrev pub function_symbols : List Object → List Symbol
+function_symbols packages = flat_map (λ o. map (λ f. object_symbol o f.name) o.functions) packages
 
 -- the number of the function that a symbol names: its index among all
-abbrev pub number_of : List Symbol → Symbol → ℕ
-number_of names s = position_or_len (same_symbol s) names
+abbrev pub function_number : List Symbol → Symbol → ℕ
+function_number names s = position_or_len (same_symbol s) names
 
 -- a variable's symbol, and how many cells it has
-abbrev pub Held : Type 0
-Held = Symbol × ℕ
+abbrev pub LinkedVariable : Type 0
+LinkedVariable = Symbol × ℕ
 
 -- the variables, one package's behind another's, each package's in declaration order
-abbrev pub variables : List Object → List Held
-variables packages = flat_map (λ o. map (λ v. (symbol_of o v.name, length v.zero)) o.variables) packages
+abbrev pub variables : List Object → List LinkedVariable
+variables packages = flat_map (λ o. map (λ v. (object_symbol o v.name, length v.zero)) o.variables) packages
 
 -- the first cell of the variable that a symbol names, where the variables lie side by side
-abbrev pub place_in : List Held → Symbol → ℕ
-place_in [] s = 0
-place_in (v ∷ vs) s = if same_symbol s v.0 then 0 else v.1 + place_in vs s
+abbrev pub first_cell_of : List LinkedVariable → Symbol → ℕ
+first_cell_of [] s = 0
+first_cell_of (v ∷ vs) s = if same_symbol s v.0 then 0 else v.1 + first_cell_of vs s
 
 -- the call goes to none of the functions
 abbrev pub misses : List Symbol → CallInstr Symbol → Bool
@@ -57,10 +57,10 @@ misses names (Call s) = not (list_any (same_symbol s) names)
 misses names (Return count) = false
 
 -- the instruction refers to none of the functions, or to none of the variables
-abbrev pub is_missing : List Symbol → List Held → Instr Symbol → Bool
-is_missing names held (By_call i) = misses names i
-is_missing names held (On_globals i) = not (list_any (λ v. same_symbol (place_of i) v.0) held)
-is_missing names held other = false
+abbrev pub is_missing_symbol : List Symbol → List LinkedVariable → Instr Symbol → Bool
+is_missing_symbol names held (By_call i) = misses names i
+is_missing_symbol names held (On_globals i) = not (list_any (λ v. same_symbol (reference_of i) v.0) held)
+is_missing_symbol names held other = false
 
 -- all code of a package
 abbrev pub code_of : Object → List (Instr Symbol)
@@ -68,12 +68,12 @@ code_of o = flat_map (λ f. f.function.code) o.functions ++ flat_map (λ s. s.co
 
 -- some instruction of the packages refers to no function or variable
 abbrev pub name_missing : List Object → Bool
-name_missing packages = list_any (is_missing (names packages) (variables packages)) (flat_map code_of packages)
+name_missing packages = list_any (is_missing_symbol (function_symbols packages) (variables packages)) (flat_map code_of packages)
 
 -- ---- main
 
-abbrev pub last_package : List Object → Option Object
-last_package packages = slice_get packages (length packages - 1)
+abbrev pub last_object : List Object → Option Object
+last_object packages = slice_get packages (length packages - 1)
 
 abbrev pub has_main_in : Option Object → Bool
 has_main_in None = false
@@ -81,14 +81,14 @@ has_main_in (Some o) = bytes_eq o.name (codes "main") && list_any (λ f. bytes_e
 
 -- the last package is named main and has a function main
 abbrev pub has_main : List Object → Bool
-has_main packages = has_main_in (last_package packages)
+has_main packages = has_main_in (last_object packages)
 
 -- ---- editions
 
 -- the edition that the last package is of
-abbrev pub edition_of : Option Object → Edition
-edition_of None = One
-edition_of (Some o) = o.edition
+abbrev pub object_edition : Option Object → Edition
+object_edition None = One
+object_edition (Some o) = o.edition
 
 -- the package is of another edition
 abbrev pub is_of_other : Edition → Object → Bool
@@ -96,7 +96,7 @@ is_of_other edition o = not (nat_eq (edition_number o.edition) (edition_number e
 
 -- some package is of another edition than the last
 abbrev pub editions_differ : List Object → Bool
-editions_differ packages = list_any (is_of_other (edition_of (last_package packages))) packages
+editions_differ packages = list_any (is_of_other (object_edition (last_object packages))) packages
 
 -- ---- refusals
 
@@ -109,52 +109,52 @@ link_refusal packages =
     else None))
 
 -- memory may run out for any objects; each other answer is right
-abbrev pub IsRefusal : LinkError → Option LinkError → Type 0
-IsRefusal Memory wrong = Unit {0}
-IsRefusal NoMain wrong = wrong ≡ Some NoMain
-IsRefusal NameMissing wrong = wrong ≡ Some NameMissing
-IsRefusal EditionsDiffer wrong = wrong ≡ Some EditionsDiffer
+abbrev pub IsLinkRefusal : LinkError → Option LinkError → Type 0
+IsLinkRefusal Memory wrong = Unit {0}
+IsLinkRefusal NoMain wrong = wrong ≡ Some NoMain
+IsLinkRefusal NameMissing wrong = wrong ≡ Some NameMissing
+IsLinkRefusal EditionsDiffer wrong = wrong ≡ Some EditionsDiffer
 
 -- ---- the image
 
 -- functions by their numbers, variables by their first cells
-abbrev pub numbers : List Symbol → List Held → Changes Symbol ℕ
-numbers names held = record { functions = number_of names; variables = place_in held }
+abbrev pub symbol_numbers : List Symbol → List LinkedVariable → Changes Symbol ℕ
+symbol_numbers names held = record { functions = function_number names; variables = first_cell_of held }
 
 -- the function with numbers in place of symbols
-abbrev pub linked_function : List Symbol → List Held → PackageFunction → Function ℕ
-linked_function names held f = refer_function (numbers names held) f.function
+abbrev pub linked_function : List Symbol → List LinkedVariable → PackageFunction → FunctionCode ℕ
+linked_function names held f = refer_function (symbol_numbers names held) f.function
 
-abbrev pub linked_setup : List Symbol → List Held → Setup Symbol → Start
-linked_setup names held s = Set_up (refer_setup (numbers names held) s)
+abbrev pub linked_setup : List Symbol → List LinkedVariable → Setup Symbol → Start
+linked_setup names held s = Set_up (refer_setup (symbol_numbers names held) s)
 
 -- a function that is called as its package is initialized: the name is `init.` and a number
-abbrev pub is_init : PackageFunction → Bool
-is_init f = starts_with nat_eq f.name (codes "init.")
+abbrev pub is_init_symbol : PackageFunction → Bool
+is_init_symbol f = starts_with nat_eq f.name (codes "init.")
 
 abbrev pub start_of : List Symbol → Object → List ℕ → Start
-start_of names o name = Run (number_of names (symbol_of o name))
+start_of names o name = Run (function_number names (object_symbol o name))
 
 -- a package's setups, then its inits
-abbrev pub package_starts : List Symbol → List Held → Object → List Start
-package_starts names held o = map (linked_setup names held) o.setups ++ map (λ f. start_of names o f.name) (filter is_init o.functions)
+abbrev pub package_starts : List Symbol → List LinkedVariable → Object → List Start
+package_starts names held o = map (linked_setup names held) o.setups ++ map (λ f. start_of names o f.name) (filter is_init_symbol o.functions)
 
 abbrev pub main_start : List Symbol → Option Object → List Start
 main_start names None = []
 main_start names (Some o) = start_of names o (codes "main") ∷ []
 
-abbrev pub zeros_of : Object → List Cell
-zeros_of o = flat_map (λ v. v.zero) o.variables
+abbrev pub zero_cells : Object → List Cell
+zero_cells o = flat_map (λ v. v.zero) o.variables
 
 -- variables and functions package by package, each package's in declaration order; the start steps package by package, and main at last
 abbrev pub linked : List Object → Image
 linked packages = record {
-  edition = edition_of (last_package packages);
-  globals = flat_map zeros_of packages;
-  functions = flat_map (λ o. map (linked_function (names packages) (variables packages)) o.functions) packages;
-  starts = flat_map (package_starts (names packages) (variables packages)) packages ++ main_start (names packages) (last_package packages);
+  edition = object_edition (last_object packages);
+  globals = flat_map zero_cells packages;
+  functions = flat_map (λ o. map (linked_function (function_symbols packages) (variables packages)) o.functions) packages;
+  starts = flat_map (package_starts (function_symbols packages) (variables packages)) packages ++ main_start (function_symbols packages) (last_object packages);
 }
 
 -- the image that objects are linked to, the packages in an order
 abbrev pub Links : List Object → List ℕ → Image → Type 0
-Links objects order image = (link_refusal (in_order objects order) ≡ None) × (image ≡ linked (in_order objects order))
+Links objects order image = (link_refusal (objects_in_order objects order) ≡ None) × (image ≡ linked (objects_in_order objects order))

@@ -3,7 +3,7 @@ ghost use Rattle.std.specs.Prelude.{◌≡◌, ◌++◌, OnOk, IfOk, map};
 ghost use Rattle.std.specs.Arc.{arc_value};
 ghost use Rattle.std.specs.List.{flat_map};
 ghost use Rattle.go_code.specs.Referred.{refer, refer_access, refer_call, refer_function};
-ghost use Rattle.go_link.specs.Links.{number_of, numbers, place_in, linked_function, zeros_of};
+ghost use Rattle.go_link.specs.Links.{function_number, symbol_numbers, first_cell_of, linked_function, zero_cells};
 
 use crate::names::Names;
 use crate::places::{Places, place_of};
@@ -33,7 +33,7 @@ fn copy_frame(instr: &FrameInstr) -> Result<FrameInstr, AllocError>
 
 /// The call with the number of the function in place of its symbol.
 fn link_call<'a>(names: &Names<'a>, instr: &'a CallInstr<Symbol>) -> CallInstr<usize>
-    ensures { result ≡ refer_call (number_of names.now) instr.now }
+    ensures { result ≡ refer_call (function_number names.now) instr.now }
 {
     match instr {
         CallInstr::Call(symbol) => CallInstr::Call(names.number_of(symbol.path(), symbol.name())),
@@ -67,7 +67,7 @@ fn access_at<P, Q>(instr: &AccessInstr<P>, first: Q) -> AccessInstr<Q>
 
 /// The access with the place of the variable in place of its symbol.
 fn link_access<'a>(places: &Places<'a>, instr: &'a AccessInstr<Symbol>) -> AccessInstr<usize>
-    ensures { result ≡ refer_access (place_in places.now) instr.now }
+    ensures { result ≡ refer_access (first_cell_of places.now) instr.now }
 {
     let symbol = place_of(instr);
     access_at(instr, places.place_in(symbol.path(), symbol.name()))
@@ -79,7 +79,7 @@ fn link_instr<'a>(
     places: &Places<'a>,
     instr: &'a Instr<Symbol>,
 ) -> Result<Instr<usize>, AllocError>
-    ensures { IfOk result (λ linked. linked ≡ refer (numbers names.now places.now) instr.now) }
+    ensures { IfOk result (λ linked. linked ≡ refer (symbol_numbers names.now places.now) instr.now) }
 {
     match instr {
         Instr::Frame(instr) => Ok(Instr::Frame(copy_frame(instr)?)),
@@ -101,7 +101,7 @@ pub(crate) fn link_code<'a>(
     places: &Places<'a>,
     code: &'a [Instr<Symbol>],
 ) -> Result<Vec<Instr<usize>>, AllocError>
-    ensures { IfOk result (λ linked. linked.items ≡ map (refer (numbers names.now places.now)) code.now) }
+    ensures { IfOk result (λ linked. linked.items ≡ map (refer (symbol_numbers names.now places.now)) code.now) }
 {
     let mut linked = Vec::new(alloc);
     for instr in code {
@@ -117,7 +117,7 @@ fn link_function<'a>(
     places: &Places<'a>,
     function: &'a Function<Symbol>,
 ) -> Result<Function<usize>, AllocError>
-    ensures { IfOk result (λ linked. linked ≡ refer_function (numbers names.now places.now) function.now) }
+    ensures { IfOk result (λ linked. linked ≡ refer_function (symbol_numbers names.now places.now) function.now) }
 {
     let code = link_code(alloc, names, places, function.code())?;
     Ok(Function::new(function.parameters(), function.cells(), code))
@@ -167,7 +167,7 @@ fn push_zeros(cells: &mut Vec<Cell>, variables: &[PackageVariable]) -> Result<()
 
 /// The zero cells of the packages' variables. An `Err` only where memory ran out.
 pub(crate) fn link_globals(alloc: Global, packages: &[Arc<Object>]) -> Result<Vec<Cell>, AllocError>
-    ensures { IfOk result (λ globals. globals.items ≡ flat_map zeros_of (map arc_value packages.now)) }
+    ensures { IfOk result (λ globals. globals.items ≡ flat_map zero_cells (map arc_value packages.now)) }
 {
     let mut globals = Vec::new(alloc);
     for object in packages {

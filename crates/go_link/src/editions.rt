@@ -2,7 +2,7 @@
 ghost use Rattle.std.specs.Prelude.{◌≡◌, map};
 ghost use Rattle.std.specs.Arc.{arc_value};
 ghost use Rattle.std.specs.List.{list_any};
-ghost use Rattle.go_link.specs.Links.{edition_of, editions_differ, is_of_other, last_package};
+ghost use Rattle.go_link.specs.Links.{object_edition, editions_differ, is_of_other, last_object};
 
 use go_code::object::Object;
 use go_text::edition::Edition;
@@ -10,7 +10,7 @@ use std::sync::Arc;
 
 /// The edition that the last package is of; the first where there is none.
 pub(crate) fn edition_of(packages: &[Arc<Object>]) -> Edition
-    ensures { result ≡ edition_of (last_package (map arc_value packages.now)) }
+    ensures { result ≡ object_edition (last_object (map arc_value packages.now)) }
 {
     match packages.last() {
         None => Edition::One,

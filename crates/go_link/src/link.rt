@@ -2,7 +2,7 @@
 ghost use Rattle.std.specs.Prelude.{◌≡◌, ◌<◌, length, map, IfOk, IfErr, OnOk, slice_get, Some, None};
 ghost use Rattle.std.specs.Arc.{arc_value};
 ghost use Rattle.std.specs.List.{All};
-ghost use Rattle.go_link.specs.Links.{IsRefusal, Links, in_order, link_refusal, linked, names as names_of, variables};
+ghost use Rattle.go_link.specs.Links.{IsLinkRefusal, Links, objects_in_order, link_refusal, linked, function_symbols as names_of, variables};
 ghost use Rattle.go_link.specs.declared.link.LinkError.TheVariants.{Memory};
 
 use crate::code::{link_functions, link_globals};
@@ -57,7 +57,7 @@ fn packages_in_order(
     order: &[usize],
 ) -> Result<Vec<Arc<Object>>, AllocError>
     requires { All (λ index. index < length objects.now) order.now }
-    ensures { IfOk result (λ packages. map arc_value packages.items ≡ in_order (map arc_value objects.now) order.now) }
+    ensures { IfOk result (λ packages. map arc_value packages.items ≡ objects_in_order (map arc_value objects.now) order.now) }
 {
     let mut packages = Vec::new(alloc);
     for index in order {
@@ -89,7 +89,7 @@ fn image_of<'a>(
 fn link_packages(alloc: Global, packages: &[Arc<Object>]) -> Result<Image, LinkError>
     ensures linked { IfOk result (λ image. image ≡ linked (map arc_value packages.now)) }
     ensures allowed { OnOk result (link_refusal (map arc_value packages.now) ≡ None) }
-    ensures refused { IfErr result (λ e. IsRefusal e (link_refusal (map arc_value packages.now))) }
+    ensures refused { IfErr result (λ e. IsLinkRefusal e (link_refusal (map arc_value packages.now))) }
 {
     if !has_main(packages) {
         return Err(LinkError::NoMain);
@@ -116,7 +116,7 @@ fn link_packages(alloc: Global, packages: &[Arc<Object>]) -> Result<Image, LinkE
 pub fn link(alloc: Global, objects: &[Arc<Object>], order: &[usize]) -> Result<Image, LinkError>
     requires indexes { All (λ index. index < length objects.now) order.now }
     ensures linked { IfOk result (λ image. Links (map arc_value objects.now) order.now image) }
-    ensures refused { IfErr result (λ e. IsRefusal e (link_refusal (in_order (map arc_value objects.now) order.now))) }
+    ensures refused { IfErr result (λ e. IsLinkRefusal e (link_refusal (objects_in_order (map arc_value objects.now) order.now))) }
 {
     let packages = packages_in_order(alloc, objects, order)?;
     link_packages(alloc, &packages)

@@ -2,7 +2,7 @@
 ghost use Rattle.std.specs.Prelude.{◌≡◌, map};
 ghost use Rattle.std.specs.List.{flat_map, list_any};
 ghost use Rattle.std.specs.Arc.{arc_value};
-ghost use Rattle.go_link.specs.Links.{is_missing, misses, code_of};
+ghost use Rattle.go_link.specs.Links.{is_missing_symbol, misses, code_of};
 
 use crate::names::Names;
 use crate::places::Places;
@@ -25,7 +25,7 @@ fn call_misses<'a>(names: &Names<'a>, instr: &'a CallInstr<Symbol>) -> bool
 
 /// Whether an instruction refers to none of the functions, or to none of the variables.
 fn is_missing<'a>(names: &Names<'a>, places: &Places<'a>, instr: &'a Instr<Symbol>) -> bool
-    ensures { result ≡ is_missing names.now places.now instr.now }
+    ensures { result ≡ is_missing_symbol names.now places.now instr.now }
 {
     match instr {
         Instr::Calls(instr) => call_misses(names, instr),
@@ -36,7 +36,7 @@ fn is_missing<'a>(names: &Names<'a>, places: &Places<'a>, instr: &'a Instr<Symbo
 
 /// Whether an instruction of a code refers to no function or variable.
 fn code_misses<'a>(names: &Names<'a>, places: &Places<'a>, code: &'a [Instr<Symbol>]) -> bool
-    ensures { result ≡ list_any (is_missing names.now places.now) code.now }
+    ensures { result ≡ list_any (is_missing_symbol names.now places.now) code.now }
 {
     for instr in code {
         if is_missing(names, places, instr) {
@@ -51,7 +51,7 @@ fn functions_miss<'a>(
     places: &Places<'a>,
     functions: &'a [PackageFunction],
 ) -> bool
-    ensures { result ≡ list_any (is_missing names.now places.now) (flat_map (λ f. f.function.code) functions.now) }
+    ensures { result ≡ list_any (is_missing_symbol names.now places.now) (flat_map (λ f. f.function.code) functions.now) }
 {
     for function in functions {
         if code_misses(names, places, function.function().code()) {
@@ -62,7 +62,7 @@ fn functions_miss<'a>(
 }
 
 fn setups_miss<'a>(names: &Names<'a>, places: &Places<'a>, setups: &'a [Setup<Symbol>]) -> bool
-    ensures { result ≡ list_any (is_missing names.now places.now) (flat_map (λ s. s.code) setups.now) }
+    ensures { result ≡ list_any (is_missing_symbol names.now places.now) (flat_map (λ s. s.code) setups.now) }
 {
     for setup in setups {
         if code_misses(names, places, setup.code()) {
@@ -73,7 +73,7 @@ fn setups_miss<'a>(names: &Names<'a>, places: &Places<'a>, setups: &'a [Setup<Sy
 }
 
 fn object_misses<'a>(names: &Names<'a>, places: &Places<'a>, object: &'a Object) -> bool
-    ensures { result ≡ list_any (is_missing names.now places.now) (code_of object.now) }
+    ensures { result ≡ list_any (is_missing_symbol names.now places.now) (code_of object.now) }
 {
     functions_miss(names, places, object.functions()) || setups_miss(names, places, object.setups())
 }
@@ -84,7 +84,7 @@ pub(crate) fn name_missing<'a>(
     places: &Places<'a>,
     packages: &'a [Arc<Object>],
 ) -> bool
-    ensures { result ≡ list_any (is_missing names.now places.now) (flat_map code_of (map arc_value packages.now)) }
+    ensures { result ≡ list_any (is_missing_symbol names.now places.now) (flat_map code_of (map arc_value packages.now)) }
 {
     for object in packages {
         if object_misses(names, places, object) {

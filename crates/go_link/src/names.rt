@@ -4,7 +4,7 @@ ghost use Rattle.std.specs.List.{position};
 ghost use Rattle.std.specs.Arc.{arc_value};
 ghost use Rattle.go_symbol.specs.Symbols.{Symbol as ASymbol};
 ghost use Rattle.go_symbol.specs.Symbols.{same_symbol};
-ghost use Rattle.go_link.specs.Links.{symbol_of, names, number_of};
+ghost use Rattle.go_link.specs.Links.{object_symbol, function_symbols, function_number};
 ghost use Rattle.go_link.specs.Named.{Numbers, symbol_at};
 
 use go_code::object::Object;
@@ -47,7 +47,7 @@ impl<'a> Names<'a> {
     /// The number of the function of a path and a name, or how many functions there are if it is
     /// none of them.
     pub(crate) fn number_of(&self, path: &'a str, name: &'a str) -> usize
-        ensures { result ≡ number_of self.now (record { path = path.now; name = name.now }) }
+        ensures { result ≡ function_number self.now (record { path = path.now; name = name.now }) }
     {
         match self.number(path, name) {
             Some(number) => number,
@@ -87,7 +87,7 @@ fn numbers_of<'a>(
 
 /// A package's functions come behind the names.
 fn push_names<'a>(names: &mut Vec<Name<'a>>, object: &'a Object) -> Result<(), AllocError>
-    ensures { OnOk result (map symbol_at names.new.items ≡ map symbol_at names.old.items ++ map (λ f. symbol_of object.now f.name) object.now.functions) }
+    ensures { OnOk result (map symbol_at names.new.items ≡ map symbol_at names.old.items ++ map (λ f. object_symbol object.now f.name) object.now.functions) }
 {
     let functions = object.functions();
     for function in functions {
@@ -101,7 +101,7 @@ pub(crate) fn collect_names<'a>(
     alloc: Global,
     packages: &'a [Arc<Object>],
 ) -> Result<Names<'a>, AllocError>
-    ensures { IfOk result (λ all. all ≡ names (map arc_value packages.now)) }
+    ensures { IfOk result (λ all. all ≡ function_symbols (map arc_value packages.now)) }
 {
     let mut all = Vec::new(alloc);
     for object in packages {

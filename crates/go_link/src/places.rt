@@ -2,10 +2,10 @@
 ghost use Rattle.std.specs.Prelude.{◌≡◌, ◌++◌, ◌∷◌, [], ℕ, List, length, OnOk, IfOk, map, not};
 ghost use Rattle.std.specs.Arc.{arc_value};
 ghost use Rattle.std.specs.List.{list_any};
-ghost use Rattle.go_code.specs.Referred.{place_of};
+ghost use Rattle.go_code.specs.Referred.{reference_of};
 ghost use Rattle.go_symbol.specs.Symbols.{same_symbol};
-ghost use Rattle.go_link.specs.Links.{Held, symbol_of, place_in, variables};
-ghost use Rattle.go_link.specs.Named.{Firsts, cells_of, held_at, place, symbol_at};
+ghost use Rattle.go_link.specs.Links.{LinkedVariable, object_symbol, first_cell_of, variables};
+ghost use Rattle.go_link.specs.Named.{Firsts, cell_count, held_at, place, symbol_at};
 
 use crate::names::Name;
 use go_code::instr::AccessInstr;
@@ -30,14 +30,14 @@ pub(crate) struct Places<'a> {
 
 impl<'a> Model for Places<'a> {
     ghost use Rattle.std.specs.Prelude.{◌≡◌, List, map};
-    ghost use Rattle.go_link.specs.Links.{Held};
-    ghost use Rattle.go_link.specs.Named.{Firsts, cells_of, held_at};
+    ghost use Rattle.go_link.specs.Links.{LinkedVariable};
+    ghost use Rattle.go_link.specs.Named.{Firsts, cell_count, held_at};
 
-    ghost Value = { List Held };
+    ghost Value = { List LinkedVariable };
 
     ghost view = { λ a. map held_at a.all.items };
 
-    ghost invariant = { λ a. Firsts a.firsts (map held_at a.all.items) × (a.cells ≡ cells_of (map held_at a.all.items)) };
+    ghost invariant = { λ a. Firsts a.firsts (map held_at a.all.items) × (a.cells ≡ cell_count (map held_at a.all.items)) };
 }
 
 impl<'a> Places<'a> {
@@ -51,7 +51,7 @@ impl<'a> Places<'a> {
     /// The place of the variable of a path and a name, or how many cells there are if it is none
     /// of them.
     pub(crate) fn place_in(&self, path: &'a str, name: &'a str) -> usize
-        ensures { result ≡ place_in self.now (record { path = path.now; name = name.now }) }
+        ensures { result ≡ first_cell_of self.now (record { path = path.now; name = name.now }) }
     {
         match self.place(path, name) {
             Some(first) => first,
@@ -61,7 +61,7 @@ impl<'a> Places<'a> {
 
     /// Whether an access is to none of the variables.
     pub(crate) fn misses(&self, instr: &'a AccessInstr<Symbol>) -> bool
-        ensures { result ≡ not (list_any (λ v. same_symbol (place_of instr.now) v.0) self.now) }
+        ensures { result ≡ not (list_any (λ v. same_symbol (reference_of instr.now) v.0) self.now) }
     {
         let symbol = place_of(instr);
         self.place(symbol.path(), symbol.name()).is_none()
@@ -70,7 +70,7 @@ impl<'a> Places<'a> {
 
 /// What an access says the place of its cells by.
 pub(crate) fn place_of<P>(instr: &AccessInstr<P>) -> &P
-    ensures { result.now ≡ place_of instr.now }
+    ensures { result.now ≡ reference_of instr.now }
 {
     match instr {
         AccessInstr::Load { first, .. } => first,
@@ -86,7 +86,7 @@ fn add_place<'a>(
     name: Name<'a>,
     first: usize,
 ) -> Result<(), AllocError>
-    ensures { OnOk result ((before : List Held) (count : ℕ) → first ≡ cells_of before → Firsts firsts.old before
+    ensures { OnOk result ((before : List LinkedVariable) (count : ℕ) → first ≡ cell_count before → Firsts firsts.old before
         → Firsts firsts.new (before ++ (symbol_at name.entry, count) ∷ [])) }
 {
     if !firsts.contains_key(&name) {
@@ -101,7 +101,7 @@ fn firsts_of<'a>(
     variables: &[Variable<'a>],
 ) -> Result<(BTreeMap<Name<'a>, usize>, usize), AllocError>
     ensures firsts { IfOk result (λ found. Firsts found.0 (map held_at variables.now)) }
-    ensures cells { IfOk result (λ found. found.1 ≡ cells_of (map held_at variables.now)) }
+    ensures cells { IfOk result (λ found. found.1 ≡ cell_count (map held_at variables.now)) }
 {
     let mut firsts = BTreeMap::new(alloc);
     let mut cells: usize = 0;
@@ -117,7 +117,7 @@ fn firsts_of<'a>(
 /// A package's variables come behind others.
 fn push_variables<'a>(found: &mut Vec<Variable<'a>>, object: &'a Object) -> Result<(), AllocError>
     ensures { OnOk result (map held_at found.new.items
-        ≡ map held_at found.old.items ++ map (λ v. (symbol_of object.now v.name, length v.zero)) object.now.variables) }
+        ≡ map held_at found.old.items ++ map (λ v. (object_symbol object.now v.name, length v.zero)) object.now.variables) }
 {
     let variables = object.variables();
     for variable in variables {

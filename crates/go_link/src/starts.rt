@@ -3,7 +3,7 @@ ghost use Rattle.std.specs.Prelude.{◌≡◌, ◌++◌, OnOk, IfOk, map, codes}
 ghost use Rattle.std.specs.Arc.{arc_value};
 ghost use Rattle.std.specs.List.{flat_map, filter, list_any};
 ghost use Rattle.std.specs.Str.{bytes_eq};
-ghost use Rattle.go_link.specs.Links.{has_main, is_init, last_package, linked_setup, main_start, package_starts, start_of};
+ghost use Rattle.go_link.specs.Links.{has_main, is_init_symbol, last_object, linked_setup, main_start, package_starts, start_of};
 
 use crate::code::link_code;
 use crate::names::Names;
@@ -21,7 +21,7 @@ const MAIN: &str = "main";
 
 /// Whether a function is called as its package is initialized.
 fn is_init(function: &PackageFunction) -> bool
-    ensures { result ≡ is_init function.now }
+    ensures { result ≡ is_init_symbol function.now }
 {
     function.name().starts_with("init.")
 }
@@ -49,7 +49,7 @@ fn push_inits<'a>(
     names: &Names<'a>,
     object: &'a Object,
 ) -> Result<(), AllocError>
-    ensures { OnOk result (starts.new.items ≡ starts.old.items ++ map (λ f. start_of names.now object.now f.name) (filter is_init object.now.functions)) }
+    ensures { OnOk result (starts.new.items ≡ starts.old.items ++ map (λ f. start_of names.now object.now f.name) (filter is_init_symbol object.now.functions)) }
 {
     let functions = object.functions();
     for function in functions {
@@ -81,7 +81,7 @@ fn push_main<'a>(
     names: &Names<'a>,
     packages: &'a [Arc<Object>],
 ) -> Result<(), AllocError>
-    ensures { OnOk result (starts.new.items ≡ starts.old.items ++ main_start names.now (last_package (map arc_value packages.now))) }
+    ensures { OnOk result (starts.new.items ≡ starts.old.items ++ main_start names.now (last_object (map arc_value packages.now))) }
 {
     if let Some(object) = packages.last() {
         let number = names.number_of(object.path(), MAIN);
@@ -98,7 +98,7 @@ pub(crate) fn link_starts<'a>(
     packages: &'a [Arc<Object>],
 ) -> Result<Vec<Start>, AllocError>
     ensures { IfOk result (λ starts. starts.items
-        ≡ flat_map (package_starts names.now places.now) (map arc_value packages.now) ++ main_start names.now (last_package (map arc_value packages.now))) }
+        ≡ flat_map (package_starts names.now places.now) (map arc_value packages.now) ++ main_start names.now (last_object (map arc_value packages.now))) }
 {
     let mut starts = Vec::new(alloc);
     for object in packages {

@@ -17,10 +17,10 @@ use Rattle.go_code.specs.declared.ending.Ending.TheVariants.{Cut, Panicked}
 use Rattle.go_code.specs.declared.ending.PanicKind.TheVariants.{Index, Depth, User}
 use Rattle.go_typed.specs.declared.expression.Operator.TheVariants.{Arithmetic as arithmetic, Comparison as comparison}
 use Rattle.go_typed.specs.Trees as trees
-use Rattle.go_typed.specs.Trees.{Expr, constant, local, index, unary, binary, both, call, Exprs, no_exprs, some_exprs, here, to_element, Left, blank, of_local, each, results, zeros, Stmt, Stmts, no_stmts, some_stmts, define, assign, update, print, panic, if_statement, for_statement, range_statement, switch_statement, break, continue, return, no_clauses, clause, pack_exprs, pack_stmts, Function, Package}
+use Rattle.go_typed.specs.Trees.{Expr, constant, local, index, unary, binary, call, no_exprs, here, to_element, of_local, each, results, zeros, Stmt, Stmts, no_stmts, define, assign, update, print, panic, if_statement, for_statement, range_statement, switch_statement, break, continue, return, no_clauses, clause, pack_exprs, pack_stmts, Package}
 use Rattle.go_meaning.specs.Values.{Value}
-use Rattle.go_meaning.specs.Meaning.{Outcome, Gives, Ends, World}
-use Rattle.go_meaning.specs.Programs.{call_at, run, first_arrays, first_world}
+use Rattle.go_meaning.specs.Meaning.{Outcome, Gives, Ends}
+use Rattle.go_meaning.specs.Programs.{call_at, run_program, first_arrays, first_world}
 
 abbrev pub int : Type'
 int = types.basic (basics.Integer integers.Int)
@@ -73,7 +73,7 @@ abbrev ended : ℕ → List (List Cell) → Outcome ⊤
 ended ticks rows = Gives tt (record { ticks = ticks; variables = []; arrays = first_arrays; output = out [] rows })
 
 -- for { fmt.Println(1) }, with 3 ticks
-pub loop_is_cut : run (main_of [] (for_statement None no_stmts (pack_stmts (print (pack_exprs (n 1 ∷ [])) ∷ [])) ∷ [])) 3 ≡ Ends Cut (out [] (ints (1 ∷ []) ∷ ints (1 ∷ []) ∷ []))
+pub loop_is_cut : run_program (main_of [] (for_statement None no_stmts (pack_stmts (print (pack_exprs (n 1 ∷ [])) ∷ [])) ∷ [])) 3 ≡ Ends Cut (out [] (ints (1 ∷ []) ∷ ints (1 ∷ []) ∷ []))
 unfolding Rattle.go_text.specs.Editions.most_open
 loop_is_cut = refl
 
@@ -88,7 +88,7 @@ divisions =
     ∷ binary int8 (arithmetic Divide) (local int8 2) (local int8 3) ∷ []))
     ∷ []
 
-pub divided : run (main_of (int ∷ int ∷ int8 ∷ int8 ∷ []) divisions) 1 ≡ ended 0 ((Int (negsuc 2) ∷ Int (negsuc 0) ∷ Int (negsuc 127) ∷ []) ∷ [])
+pub divided : run_program (main_of (int ∷ int ∷ int8 ∷ int8 ∷ []) divisions) 1 ≡ ended 0 ((Int (negsuc 2) ∷ Int (negsuc 0) ∷ Int (negsuc 127) ∷ []) ∷ [])
 unfolding Rattle.go_text.specs.Editions.most_open
 divided = refl
 
@@ -104,7 +104,7 @@ tuples =
     ∷ assign (of_local three 0 (to_element (local int 2) here) ∷ []) (each (pack_exprs (n 1 ∷ [])))
     ∷ []
 
-pub tuple_row : run (main_of (three ∷ int ∷ int ∷ []) tuples) 10 ≡ Ends (Panicked Index) (out [] (ints (1 ∷ 0 ∷ 9 ∷ []) ∷ []))
+pub tuple_row : run_program (main_of (three ∷ int ∷ int ∷ []) tuples) 10 ≡ Ends (Panicked Index) (out [] (ints (1 ∷ 0 ∷ 9 ∷ []) ∷ []))
 unfolding Rattle.go_meaning.specs.Meaning.most_cells Rattle.go_text.specs.Editions.most_open
 tuple_row = refl
 
@@ -127,16 +127,16 @@ ranges =
     range_statement (Some 0) int (n 3) (pack_stmts (print (pack_exprs (i ∷ [])) ∷ assign (of_local int 0 here ∷ []) (each (pack_exprs (n 9 ∷ []))) ∷ []))
     ∷ []
 
-pub range_row : run (main_of (int ∷ []) ranges) 4 ≡ ended 0 (ints (0 ∷ []) ∷ ints (1 ∷ []) ∷ ints (2 ∷ []) ∷ [])
+pub range_row : run_program (main_of (int ∷ []) ranges) 4 ≡ ended 0 (ints (0 ∷ []) ∷ ints (1 ∷ []) ∷ ints (2 ∷ []) ∷ [])
 unfolding Rattle.go_meaning.specs.Meaning.most_cells Rattle.go_text.specs.Editions.most_open
 range_row = refl
 
-pub range_cut : run (main_of (int ∷ []) ranges) 3 ≡ Ends Cut (out [] (ints (0 ∷ []) ∷ ints (1 ∷ []) ∷ []))
+pub range_cut : run_program (main_of (int ∷ []) ranges) 3 ≡ Ends Cut (out [] (ints (0 ∷ []) ∷ ints (1 ∷ []) ∷ []))
 unfolding Rattle.go_meaning.specs.Meaning.most_cells Rattle.go_text.specs.Editions.most_open
 range_cut = refl
 
 -- panic("no")
-pub panic_row : run (main_of [] (panic (constant string (consts.Text (codes "no"))) ∷ [])) 1 ≡ Ends (Panicked (User (codes "no"))) []
+pub panic_row : run_program (main_of [] (panic (constant string (consts.Text (codes "no"))) ∷ [])) 1 ≡ Ends (Panicked (User (codes "no"))) []
 unfolding Rattle.go_text.specs.Editions.most_open
 panic_row = refl
 
@@ -151,7 +151,7 @@ switches =
     (clause None (prints 9) false no_clauses)))
     ∷ []
 
-pub switch_row : run (main_of (int ∷ []) switches) 1 ≡ ended 0 (ints (2 ∷ []) ∷ ints (9 ∷ []) ∷ [])
+pub switch_row : run_program (main_of (int ∷ []) switches) 1 ≡ ended 0 (ints (2 ∷ []) ∷ ints (9 ∷ []) ∷ [])
 unfolding Rattle.go_text.specs.Editions.most_open
 switch_row = refl
 
@@ -164,7 +164,7 @@ texts =
     ∷ binary bool (comparison Less) (local string 0) (constant string (consts.Text (codes "abd"))) ∷ []))
     ∷ []
 
-pub text_row : run (main_of (string ∷ []) texts) 1 ≡ ended 0 ((Int (pos 98) ∷ Int (pos 3) ∷ Truth true ∷ []) ∷ [])
+pub text_row : run_program (main_of (string ∷ []) texts) 1 ≡ ended 0 ((Int (pos 98) ∷ Int (pos 3) ∷ Truth true ∷ []) ∷ [])
 unfolding Rattle.go_text.specs.Editions.most_open
 text_row = refl
 
@@ -193,7 +193,7 @@ either_of =
           ∷ [];
     } ∷ []
 
-pub either_row : run either_of 2 ≡ ended 0 ((Text (codes "t") ∷ []) ∷ [])
+pub either_row : run_program either_of 2 ≡ ended 0 ((Text (codes "t") ∷ []) ∷ [])
 unfolding Rattle.go_text.specs.Editions.most_open
 either_row = refl
 
@@ -208,6 +208,6 @@ loops =
     ∷ print (pack_exprs (i ∷ [])) ∷ []))
     ∷ []
 
-pub loop_row : run (main_of (int ∷ []) loops) 9 ≡ ended 4 (ints (0 ∷ []) ∷ ints (2 ∷ []) ∷ [])
+pub loop_row : run_program (main_of (int ∷ []) loops) 9 ≡ ended 4 (ints (0 ∷ []) ∷ ints (2 ∷ []) ∷ [])
 unfolding Rattle.go_meaning.specs.Meaning.most_cells Rattle.go_text.specs.Editions.most_open
 loop_row = refl

@@ -1,5 +1,5 @@
 -- Rows of slices, computed on the definitions.
-use Rattle.std.proofs.Common.{◌≡◌, ℕ, true, false, List, [], ◌∷◌, Some, None, refl, pos, negsuc, ◌++◌}
+use Rattle.std.proofs.Common.{◌≡◌, ℕ, List, [], ◌∷◌, Some, refl, negsuc}
 use Rattle.std.specs.Prelude.{codes, ⊤}
 use Rattle.go_const.specs.declared.constant.Const.TheVariants as consts
 use Rattle.go_types.specs.declared.types.Basic.TheVariants as basics
@@ -7,16 +7,15 @@ use Rattle.go_const.specs.declared.kind.IntKind.TheVariants as integers
 use Rattle.go_types.specs.Types as types
 use Rattle.go_types.specs.Types.{Type'}
 use Rattle.go_code.specs.declared.cell.Cell.{Cell}
-use Rattle.go_code.specs.declared.cell.Cell.TheVariants.{Int, Bool as Truth, Text}
-use Rattle.go_code.specs.declared.ending.Ending.TheVariants.{Cut, Panicked}
+use Rattle.go_code.specs.declared.cell.Cell.TheVariants.{Text}
+use Rattle.go_code.specs.declared.ending.Ending.TheVariants.{Panicked}
 use Rattle.go_code.specs.declared.ending.PanicKind.TheVariants.{Index, Slice as Bounds, Make as Making, Long}
 use Rattle.go_const.specs.declared.operator.ArithmeticOperator.TheVariants.{Add}
 use Rattle.go_typed.specs.declared.expression.Operator.TheVariants.{Arithmetic as arithmetic}
 use Rattle.go_typed.specs.Trees as trees
-use Rattle.go_typed.specs.Trees.{Expr, constant, local, index, cut, make, append, absent, present, capacity, field, literal, part, no_parts, update, here, to_field, to_element, Left, of_local, of_slice, each, Stmt, define, assign, print, pack_exprs}
-use Rattle.go_meaning.specs.Values.{Value}
-use Rattle.go_meaning.specs.Meaning.{Outcome, Gives, Ends, World}
-use Rattle.go_meaning.specs.Programs.{run}
+use Rattle.go_typed.specs.Trees.{Expr, constant, local, index, cut, make, append, absent, present, capacity, literal, part, no_parts, update, here, to_element, of_local, of_slice, each, Stmt, define, assign, print, pack_exprs}
+use Rattle.go_meaning.specs.Meaning.{Outcome, Gives, Ends}
+use Rattle.go_meaning.specs.Programs.{run_program}
 pub use Rattle.go_meaning.proofs.Computed.{int, string, n, out, ints}
 use Rattle.go_meaning.proofs.Computed.{main_of}
 
@@ -59,7 +58,7 @@ one =
     ∷ print (pack_exprs (at 0 2 ∷ len 1 ∷ cap 1 ∷ []))
     ∷ []
 
-pub row_one : Prints (run (main_of (ints_type ∷ ints_type ∷ []) one) 1) (ints (9 ∷ 3 ∷ 3 ∷ []) ∷ [])
+pub row_one : Prints (run_program (main_of (ints_type ∷ ints_type ∷ []) one) 1) (ints (9 ∷ 3 ∷ 3 ∷ []) ∷ [])
 unfolding Rattle.go_meaning.specs.Meaning.most_cells Rattle.go_text.specs.Editions.most_open Rattle.go_code.specs.Rows.most_room
 row_one = refl
 
@@ -74,7 +73,7 @@ two =
     ∷ print (pack_exprs (at 1 3 ∷ at 1 5 ∷ []))
     ∷ []
 
-pub row_two : Prints (run (main_of (ints_type ∷ ints_type ∷ []) two) 1) (ints (1 ∷ 7 ∷ 4 ∷ 6 ∷ []) ∷ ints (4 ∷ 0 ∷ []) ∷ [])
+pub row_two : Prints (run_program (main_of (ints_type ∷ ints_type ∷ []) two) 1) (ints (1 ∷ 7 ∷ 4 ∷ 6 ∷ []) ∷ ints (4 ∷ 0 ∷ []) ∷ [])
 unfolding Rattle.go_meaning.specs.Meaning.most_cells Rattle.go_text.specs.Editions.most_open Rattle.go_code.specs.Rows.most_room
 row_two = refl
 
@@ -88,7 +87,7 @@ three_of =
     ∷ print (pack_exprs (at 2 0 ∷ at 0 0 ∷ []))
     ∷ []
 
-pub row_three : Prints (run (main_of (ints_type ∷ ints_type ∷ ints_type ∷ []) three_of) 1) (ints (5 ∷ 2 ∷ []) ∷ [])
+pub row_three : Prints (run_program (main_of (ints_type ∷ ints_type ∷ ints_type ∷ []) three_of) 1) (ints (5 ∷ 2 ∷ []) ∷ [])
 unfolding Rattle.go_meaning.specs.Meaning.most_cells Rattle.go_text.specs.Editions.most_open Rattle.go_code.specs.Rows.most_room
 row_three = refl
 
@@ -99,7 +98,7 @@ four =
     ∷ print (pack_exprs (cut string (local string 0) (n 1) absent ∷ []))
     ∷ []
 
-pub row_four : Prints (run (main_of (string ∷ []) four) 1) ((Text (codes "bc") ∷ []) ∷ [])
+pub row_four : Prints (run_program (main_of (string ∷ []) four) 1) ((Text (codes "bc") ∷ []) ∷ [])
 unfolding Rattle.go_text.specs.Editions.most_open
 row_four = refl
 
@@ -110,25 +109,25 @@ five e = var 0 (list (1 ∷ [])) ∷ print (pack_exprs (trees.length int e ∷ [
 abbrev pub slice_of_it : ℕ → ℕ → Expr
 slice_of_it a b = cut ints_type (of 0) (n a) (present (n b))
 
-pub row_five : Prints (run (main_of (ints_type ∷ []) (five (slice_of_it 1 1))) 1) (ints (0 ∷ []) ∷ [])
+pub row_five : Prints (run_program (main_of (ints_type ∷ []) (five (slice_of_it 1 1))) 1) (ints (0 ∷ []) ∷ [])
 unfolding Rattle.go_text.specs.Editions.most_open Rattle.go_code.specs.Rows.most_room
 row_five = refl
 
-pub row_five_slice : run (main_of (ints_type ∷ []) (five (slice_of_it 1 3))) 1 ≡ Ends (Panicked Bounds) []
+pub row_five_slice : run_program (main_of (ints_type ∷ []) (five (slice_of_it 1 3))) 1 ≡ Ends (Panicked Bounds) []
 unfolding Rattle.go_text.specs.Editions.most_open Rattle.go_code.specs.Rows.most_room
 row_five_slice = refl
 
 -- n := -1; s := make([]int, n)
-pub row_five_make : run (main_of (int ∷ ints_type ∷ []) (var 0 (constant int (consts.Integer (negsuc 0))) ∷ var 1 (make ints_type (local int 0) absent) ∷ [])) 1 ≡ Ends (Panicked Making) []
+pub row_five_make : run_program (main_of (int ∷ ints_type ∷ []) (var 0 (constant int (consts.Integer (negsuc 0))) ∷ var 1 (make ints_type (local int 0) absent) ∷ [])) 1 ≡ Ends (Panicked Making) []
 unfolding Rattle.go_text.specs.Editions.most_open
 row_five_make = refl
 
 -- s := make([]int, 2, 1); make([]int, 16777217)
-pub row_make_above : run (main_of (ints_type ∷ []) (var 0 (make ints_type (n 2) (present (n 1))) ∷ [])) 1 ≡ Ends (Panicked Making) []
+pub row_make_above : run_program (main_of (ints_type ∷ []) (var 0 (make ints_type (n 2) (present (n 1))) ∷ [])) 1 ≡ Ends (Panicked Making) []
 unfolding Rattle.go_text.specs.Editions.most_open
 row_make_above = refl
 
-pub row_make_long : run (main_of (ints_type ∷ []) (var 0 (make ints_type (n 16777217) absent) ∷ [])) 1 ≡ Ends (Panicked Long) []
+pub row_make_long : run_program (main_of (ints_type ∷ []) (var 0 (make ints_type (n 16777217) absent) ∷ [])) 1 ≡ Ends (Panicked Long) []
 unfolding Rattle.go_text.specs.Editions.most_open Rattle.go_code.specs.Rows.most_room
 row_make_long = refl
 
@@ -148,10 +147,10 @@ six i j =
     ∷ print (pack_exprs (index int (index pair (local pairs 0) (n 0)) (n 0) ∷ index int (index pair (local pairs 0) (n 1)) (n 0) ∷ index int (index pair (local pairs 0) (n 1)) (n 1) ∷ []))
     ∷ []
 
-pub row_six : Prints (run (main_of (pairs ∷ int ∷ int ∷ []) (six 1 0)) 1) (ints (1 ∷ 8 ∷ 4 ∷ []) ∷ [])
+pub row_six : Prints (run_program (main_of (pairs ∷ int ∷ int ∷ []) (six 1 0)) 1) (ints (1 ∷ 8 ∷ 4 ∷ []) ∷ [])
 unfolding Rattle.go_meaning.specs.Meaning.most_cells Rattle.go_text.specs.Editions.most_open Rattle.go_code.specs.Rows.most_room
 row_six = refl
 
-pub row_six_index : run (main_of (pairs ∷ int ∷ int ∷ []) (six 2 0)) 1 ≡ Ends (Panicked Index) []
+pub row_six_index : run_program (main_of (pairs ∷ int ∷ int ∷ []) (six 2 0)) 1 ≡ Ends (Panicked Index) []
 unfolding Rattle.go_meaning.specs.Meaning.most_cells Rattle.go_text.specs.Editions.most_open Rattle.go_code.specs.Rows.most_room
 row_six_index = refl

@@ -13,7 +13,7 @@ use Rattle.go_code.specs.declared.ending.Ending.{Ending}
 use Rattle.go_code.specs.declared.ending.Ending.TheVariants.{Ended, Cut}
 use Rattle.go_code.specs.Lines.{line_text}
 use Rattle.go_typed.specs.declared.expression.Operator.TheVariants.{Arithmetic as arithmetic}
-use Rattle.go_typed.specs.Trees.{Symbol, Expr, constant, global, binary, call, no_exprs, here, of_global, Source, each, results, Stmt, assign, update, print, run, return, pack_exprs, pack_stmts, Function, Initialization, Package, Variable}
+use Rattle.go_typed.specs.Trees.{Symbol, Expr, constant, global, binary, call, no_exprs, here, of_global, ValueSource, each, results, Stmt, assign, update, print, run, return, pack_exprs, pack_stmts, Function, Initialization, Package, Variable}
 use Rattle.go_meaning.specs.Meaning.{Outcome, Gives, Ends, Stuck}
 use Rattle.go_meaning.specs.Programs as programs
 
@@ -32,7 +32,7 @@ g x = global int (app x)
 abbrev variable : List ℕ → Variable
 variable x = record { name = x; of = int; file = codes "main.go"; place = record { line = 1; column = 1 } }
 
-abbrev setting : List (Option (List ℕ)) → Source → List (List ℕ) → Initialization
+abbrev setting : List (Option (List ℕ)) → ValueSource → List (List ℕ) → Initialization
 setting xs s rs = record { variables = xs; file = codes "main.go"; place = record { line = 1; column = 1 }; source = s; references = rs }
 
 abbrev set : List ℕ → Expr → List (List ℕ) → Initialization
@@ -90,11 +90,11 @@ counted =
     ∷ function main [] (print (pack_exprs (g a ∷ g b ∷ g c ∷ g d ∷ [])) ∷ []) ∷ [])
     ∷ []
 
-pub counted_row : ends (programs.run counted 3) ≡ Some (Ended, line (9 ∷ 4 ∷ 5 ∷ 5 ∷ []))
+pub counted_row : ends (programs.run_program counted 3) ≡ Some (Ended, line (9 ∷ 4 ∷ 5 ∷ 5 ∷ []))
 unfolding Rattle.go_meaning.specs.Meaning.most_cells Rattle.go_text.specs.Editions.most_open
 counted_row = refl
 
-pub cut_row : ends (programs.run counted 2) ≡ Some (Cut, [])
+pub cut_row : ends (programs.run_program counted 2) ≡ Some (Cut, [])
 unfolding Rattle.go_meaning.specs.Meaning.most_cells Rattle.go_text.specs.Editions.most_open
 cut_row = refl
 
@@ -107,7 +107,7 @@ later =
     ∷ function main [] (print (pack_exprs (g a ∷ g c ∷ [])) ∷ []) ∷ [])
     ∷ []
 
-pub later_row : ends (programs.run later 2) ≡ Some (Ended, line (0 ∷ 5 ∷ []))
+pub later_row : ends (programs.run_program later 2) ≡ Some (Ended, line (0 ∷ 5 ∷ []))
 unfolding Rattle.go_meaning.specs.Meaning.most_cells Rattle.go_text.specs.Editions.most_open
 later_row = refl
 
@@ -122,11 +122,11 @@ two =
     function main [] (run [] (record { path = codes "lib"; name = inc }) no_exprs ∷ update int (of_global int big here) (arithmetic Add) (n 2) ∷ print (pack_exprs (global int big ∷ [])) ∷ []) ∷ [])
     ∷ []
 
-pub two_row : ends (programs.run two 2) ≡ Some (Ended, line (4 ∷ []))
+pub two_row : ends (programs.run_program two 2) ≡ Some (Ended, line (4 ∷ []))
 unfolding Rattle.go_meaning.specs.Meaning.most_cells Rattle.go_text.specs.Editions.most_open
 two_row = refl
 
-pub two_cut_row : ends (programs.run two 1) ≡ Some (Cut, [])
+pub two_cut_row : ends (programs.run_program two 1) ≡ Some (Cut, [])
 unfolding Rattle.go_meaning.specs.Meaning.most_cells Rattle.go_text.specs.Editions.most_open
 two_cut_row = refl
 
@@ -141,10 +141,10 @@ first =
     ∷ function main [] (print (pack_exprs (g b ∷ [])) ∷ []) ∷ [])
     ∷ []
 
-pub first_row : ends (programs.run first 4) ≡ Some (Ended, line (7 ∷ 7 ∷ []) ++ line (8 ∷ []))
+pub first_row : ends (programs.run_program first 4) ≡ Some (Ended, line (7 ∷ 7 ∷ []) ++ line (8 ∷ []))
 unfolding Rattle.go_meaning.specs.Meaning.most_cells Rattle.go_text.specs.Editions.most_open
 first_row = refl
 
-pub first_cut_row : ends (programs.run first 2) ≡ Some (Cut, line (7 ∷ 7 ∷ []))
+pub first_cut_row : ends (programs.run_program first 2) ≡ Some (Cut, line (7 ∷ 7 ∷ []))
 unfolding Rattle.go_meaning.specs.Meaning.most_cells Rattle.go_text.specs.Editions.most_open
 first_cut_row = refl

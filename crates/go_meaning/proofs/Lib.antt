@@ -1,3 +1,3 @@
-pub mod Computed
+mod Computed
 pub mod ComputedSlices
 mod ComputedStarts

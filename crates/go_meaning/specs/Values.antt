@@ -21,9 +21,9 @@ mutual
     no_values : Values
     some_values : Value → Values → Values
 
-abbrev pub pack : List Value → Values
-pack [] = no_values
-pack (v ∷ vs) = some_values v (pack vs)
+abbrev pub pack_values : List Value → Values
+pack_values [] = no_values
+pack_values (v ∷ vs) = some_values v (pack_values vs)
 
 abbrev pub unpack : Values → List Value
 unpack no_values = []
@@ -54,28 +54,23 @@ is_basic b c = false
 abbrev mutual
   pub is_of : Type' → Value → Bool
   is_of (basic b) (single c) = is_basic b c
-  is_of (basic b) (parts vs) = false
-  is_of (array n t) (single c) = false
   is_of (array n t) (parts vs) = nat_eq (length (unpack vs)) n && list_all (is_of t) (unpack vs)
   -- https://go.dev/ref/spec#Slice_types
   is_of (slice t) (single (Slice row start length capacity)) = true
-  is_of (slice t) v = false
-  is_of (struct fs) (single c) = false
   is_of (struct fs) (parts vs) = are_of_fields fs (unpack vs)
   is_of (named path name t) v = is_of t v
+  is_of t v = false
 
   pub are_of_fields : Fields → List Value → Bool
   are_of_fields no_fields [] = true
-  are_of_fields no_fields (v ∷ vs) = false
-  are_of_fields (field p x t fs) [] = false
   are_of_fields (field p x t fs) (v ∷ vs) = is_of t v && are_of_fields fs vs
+  are_of_fields fs vs = false
 
 -- values are of some types, in their order
 abbrev pub are_of : List Type' → List Value → Bool
 are_of [] [] = true
-are_of [] (v ∷ vs) = false
-are_of (t ∷ ts) [] = false
 are_of (t ∷ ts) (v ∷ vs) = is_of t v && are_of ts vs
+are_of ts vs = false
 
 -- https://go.dev/ref/spec#The_zero_value
 abbrev pub zero_cell : Basic → Cell
@@ -89,7 +84,7 @@ zero_cell (basics.Untyped kind) = Int (pos 0)
 abbrev mutual
   pub zero_of : Type' → Value
   zero_of (basic b) = single (zero_cell b)
-  zero_of (array n t) = parts (pack (replicate n (zero_of t)))
+  zero_of (array n t) = parts (pack_values (replicate n (zero_of t)))
   zero_of (slice t) = single (Slice 0 0 0 0)
   zero_of (struct fs) = parts (zeros_of fs)
   zero_of (named path name t) = zero_of t
@@ -135,14 +130,14 @@ abbrev pub part_of : Value → Step → Operated Value
 part_of (single c) s = Senseless
 part_of (parts vs) s = part_in vs s
 
-abbrev pub number_of : Step → ℕ
-number_of (to_field n) = n
-number_of (to_element (pos n)) = n
-number_of (to_element (negsuc n)) = 0
+abbrev pub step_number : Step → ℕ
+step_number (to_field n) = n
+step_number (to_element (pos n)) = n
+step_number (to_element (negsuc n)) = 0
 
 abbrev pub with_part : Value → Step → Value → Value
 with_part (single c) s x = single c
-with_part (parts vs) s x = parts (with_nth vs (number_of s) x)
+with_part (parts vs) s x = parts (with_nth vs (step_number s) x)
 
 -- the part that steps lead to
 abbrev pub read : List Step → Value → Operated Value

@@ -1,5 +1,5 @@
 -- Arrays that stand on a shelf, and what slices of values do with them.
-use Rattle.std.proofs.Common.{◌≡◌, ℕ, zero, suc, ◌+◌, ◌-◌, ◌*◌, ◌≤◌, Bool, true, false, ◌&&◌, nat_le, nat_eq, List, [], ◌∷◌, ◌++◌, length, take, drop, replicate, Option, Some, None, ℤ, pos, negsuc, refl, sym, ap, ◌∙◌, subst, arith, length-append, length-take, length-drop, if◌then◌else◌}
+use Rattle.std.proofs.Common.{◌≡◌, ℕ, zero, suc, ◌+◌, ◌-◌, ◌*◌, ◌≤◌, Bool, true, false, ◌&&◌, nat_le, nat_eq, List, [], ◌∷◌, ◌++◌, length, take, drop, Some, ℤ, pos, negsuc, refl, sym, ap, ◌∙◌, subst, arith, length-append, length-take, length-drop, if◌then◌else◌}
 use Rattle.std.specs.Prelude.{slice_get, slice_set}
 use Rattle.std.specs.List.{list_all}
 use Rattle.std.proofs.lemmas.Bool.{leb-true, le-leb}
@@ -8,11 +8,11 @@ use Rattle.go_types.specs.Sizes.{cells}
 use Rattle.go_code.specs.declared.cell.Cell.TheVariants.{Int, Bool as Truth, Text, Slice}
 use Rattle.go_code.specs.declared.ending.PanicKind.TheVariants.{Long, Make as Making}
 use Rattle.go_code.specs.Operators as operators
-use Rattle.go_code.specs.Rows.{row_of, most_room, has_room, asked, grown}
-use Rattle.go_meaning.specs.Values.{Value, single, parts, Values, pack, unpack, is_of}
-use Rattle.go_meaning.specs.Meaning.{World, Outcome, Gives, and_then, array_of, elements, overwritten, with_array, with_elements}
-use Rattle.go_meaning_laws.proofs.Shelf.{Shelf, Grows, grows_one, Lies, Each, each_map, each_append, each_take, each_drop, Rooted}
-use Rattle.go_meaning_laws.proofs.Values.{Proper, AllProper, Of, both_true, true_both, number_same, same_number, each_grow}
+use Rattle.go_code.specs.Rows.{row_of, most_room, has_room, make_sizes, grown}
+use Rattle.go_meaning.specs.Values.{Value, single, parts, Values, pack_values, unpack, is_of}
+use Rattle.go_meaning.specs.Meaning.{ProgramState, Outcome, Gives, and_then, array_of, elements_of_slice, overwritten, with_array, with_elements}
+use Rattle.go_meaning_laws.proofs.Shelf.{Shelf, grows_one, Lies, Each, each_map, each_append, each_take, each_drop, Rooted}
+use Rattle.go_meaning_laws.proofs.Values.{AllProper, Of, both_true, true_both, number_same, same_number, each_grow}
 use Rattle.go_meaning_laws.proofs.Parts.{Fine}
 
 -- an array has so many elements, values of that type, and there is room for them
@@ -78,27 +78,27 @@ pub each_typed : (σ : Shelf) (t : Type') (vs : List Value) → Each (Of σ t) v
 each_typed σ t [] h = refl
 each_typed σ t (v ∷ vs) h = true_both (is_of t v) (list_all (is_of t) vs) (h.0).0 (each_typed σ t vs h.1)
 
-each_proper : (σ : Shelf) (t : Type') (vs : List Value) → Each (Of σ t) vs → AllProper (pack vs)
+each_proper : (σ : Shelf) (t : Type') (vs : List Value) → Each (Of σ t) vs → AllProper (pack_values vs)
 each_proper σ t [] h = tt
 each_proper σ t (v ∷ vs) h = ((h.0).1, each_proper σ t vs h.1)
 
-unpacked : (vs : List Value) → unpack (pack vs) ≡ vs
+unpacked : (vs : List Value) → unpack (pack_values vs) ≡ vs
 unpacked [] = refl
 unpacked (v ∷ vs) = ap (λ l. v ∷ l) (unpacked vs)
 
 -- so they are the elements of an array
-each_array : (σ : Shelf) (t : Type') (n : ℕ) (vs : List Value) → length vs ≡ n → Each (Of σ t) vs → Of σ (array n t) (parts (pack vs))
+each_array : (σ : Shelf) (t : Type') (n : ℕ) (vs : List Value) → length vs ≡ n → Each (Of σ t) vs → Of σ (array n t) (parts (pack_values vs))
 each_array σ t n vs l h = (
   ap (λ us. nat_eq (length us) n && list_all (is_of t) us) (unpacked vs) ∙ true_both (nat_eq (length vs) n) (list_all (is_of t) vs) (number_same (length vs) n l) (each_typed σ t vs h),
   each_proper σ t vs h,
   subst (Each (Rooted σ t)) (sym (unpacked vs)) (each_map (Of σ t) (Rooted σ t) vs (λ v k. k.2) h),
 )
 
-of_each : (σ : Shelf) (t : Type') (vs : List Value) → list_all (is_of t) vs ≡ true → AllProper (pack vs) → Each (Rooted σ t) vs → Each (Of σ t) vs
+of_each : (σ : Shelf) (t : Type') (vs : List Value) → list_all (is_of t) vs ≡ true → AllProper (pack_values vs) → Each (Rooted σ t) vs → Each (Of σ t) vs
 of_each σ t [] e p r = tt
 of_each σ t (v ∷ vs) e p r = (let h = both_true (is_of t v) (list_all (is_of t) vs) e in ((h.0, p.0, r.0), of_each σ t vs h.1 p.1 r.1))
 
-packed : (vs : Values) → AllProper vs → AllProper (pack (unpack vs))
+packed : (vs : Values) → AllProper vs → AllProper (pack_values (unpack vs))
 packed Values.no_values h = tt
 packed (Values.some_values v vs) h = (h.0, packed vs h.1)
 
@@ -110,13 +110,13 @@ array_each σ t n vs h =
 
 -- ---- a slice finds its array
 
-abbrev Finds : Shelf → Type' → ℕ → ℕ → ℕ → ℕ → World → Type 0
+abbrev Finds : Shelf → Type' → ℕ → ℕ → ℕ → ℕ → ProgramState → Type 0
 Finds σ t r start n c w = (array_of t r start n c w ≡ Gives (row_of w.arrays r) w) × Each (Of σ t) (row_of w.arrays r) × (n ≤ c) × (start + c ≤ length (row_of w.arrays r))
 
-if_gives : (b : Bool) (vs : List Value) (w : World) → b ≡ true → (if b then Gives vs w else Outcome.Stuck) ≡ Gives vs w
+if_gives : (b : Bool) (vs : List Value) (w : ProgramState) → b ≡ true → (if b then Gives vs w else Outcome.Stuck) ≡ Gives vs w
 if_gives b vs w e = ap (λ x. if x then Gives vs w else Outcome.Stuck) e
 
-pub array_found : (σ : Shelf) (t : Type') (r start n c : ℕ) (w : World) (arrays : List (List Value)) → w.arrays ≡ arrays → Stands σ arrays → Lies σ t r start n c → Finds σ t r start n c w
+pub array_found : (σ : Shelf) (t : Type') (r start n c : ℕ) (w : ProgramState) (arrays : List (List Value)) → w.arrays ≡ arrays → Stands σ arrays → Lies σ t r start n c → Finds σ t r start n c w
 array_found σ t r start n c w [] e h lies = absurd h
 array_found σ t zero start n c w (vs ∷ arrays) e h lies =
     let none : row_of w.arrays zero ≡ [] = ap (λ l. row_of l zero) e ∙ h.0 in
@@ -184,17 +184,17 @@ lies_new σ t n m (x ∷ arrays) h l room =
 -- ---- the elements of a slice
 
 -- so many elements are found, and others of that number may be put there
-pub record Window (σ : Shelf) (t : Type') (v : Value) (w : World) : Type 0 where
+pub record Window (σ : Shelf) (t : Type') (v : Value) (w : ProgramState) : Type 0 where
   pub count : ℕ
   pub whole : List Value
-  pub found : elements t v w ≡ Gives (parts (pack whole)) w
-  pub typed : Of σ (array count t) (parts (pack whole))
-  pub put : (vs : List Value) → length vs ≡ count → Each (Of σ t) vs → (later : World) × (with_elements t v vs w ≡ Gives later w) × (later.variables ≡ w.variables) × Stands σ later.arrays
+  pub found : elements_of_slice t v w ≡ Gives (parts (pack_values whole)) w
+  pub typed : Of σ (array count t) (parts (pack_values whole))
+  pub put : (vs : List Value) → length vs ≡ count → Each (Of σ t) vs → (later : ProgramState) × (with_elements t v vs w ≡ Gives later w) × (later.variables ≡ w.variables) × Stands σ later.arrays
 
-if_put : (b : Bool) (later w : World) → b ≡ true → (if b then Gives later w else Outcome.Stuck) ≡ Gives later w
+if_put : (b : Bool) (later w : ProgramState) → b ≡ true → (if b then Gives later w else Outcome.Stuck) ≡ Gives later w
 if_put b later w e = ap (λ x. if x then Gives later w else Outcome.Stuck) e
 
-window_at : (σ : Shelf) (t : Type') (row start n c : ℕ) (w : World) → Lies σ t row start n c → Stands σ w.arrays → Window σ t (single (Slice row start n c)) w
+window_at : (σ : Shelf) (t : Type') (row start n c : ℕ) (w : ProgramState) → Lies σ t row start n c → Stands σ w.arrays → Window σ t (single (Slice row start n c)) w
 window_at σ t row start n c w lies stands =
     let f = array_found σ t row start n c w w.arrays refl stands lies in
     let all : List Value = row_of w.arrays row in
@@ -203,10 +203,10 @@ window_at σ t row start n c w lies stands =
     record {
       count = n;
       whole = some;
-      found = ap (λ (o : Outcome (List Value)). and_then o (λ all1. Gives (parts (pack (take n (drop start all1)))))) f.0;
+      found = ap (λ (o : Outcome (List Value)). and_then o (λ all1. Gives (parts (pack_values (take n (drop start all1)))))) f.0;
       typed = each_array σ t n some long (each_take (Of σ t) n (drop start all) (each_drop (Of σ t) start all f.1));
       put = λ vs l k. (
-          let later : World = with_array w row (overwritten all start vs) in (
+          let later : ProgramState = with_array w row (overwritten all start vs) in (
             later,
             if_put _ later w (true_both (list_all (is_of t) vs) (nat_eq (length vs) n) (each_typed σ t vs k) (number_same (length vs) n l)),
             refl,
@@ -214,7 +214,7 @@ window_at σ t row start n c w lies stands =
           ));
     }
 
-pub window : (σ : Shelf) (t : Type') (v : Value) (w : World) → Of σ (slice t) v → Stands σ w.arrays → Window σ t v w
+pub window : (σ : Shelf) (t : Type') (v : Value) (w : ProgramState) → Of σ (slice t) v → Stands σ w.arrays → Window σ t v w
 window σ t (single (Slice row start n c)) w h stands = window_at σ t row start n c w h.2 stands
 window σ t (single (Int z)) w h stands = (let k = h.0 in absurd (cc))
 window σ t (single (Truth b)) w h stands = (let k = h.0 in absurd (cc))
@@ -227,7 +227,7 @@ window σ t (parts vs) w h stands = (let k = h.0 in absurd (cc))
 abbrev pub Roomy : ℕ → ℕ × ℕ → Type 0
 Roomy size s = (s.0 ≤ s.1) × (has_room size s.1 ≡ true)
 
-pub asked_fine : (size : ℕ) (x y : ℤ) → Fine (Roomy size) (asked size (Int x) (Int y))
+pub asked_fine : (size : ℕ) (x y : ℤ) → Fine (Roomy size) (make_sizes size (Int x) (Int y))
 asked_fine size (negsuc x) (pos y) = tt
 asked_fine size (negsuc x) (negsuc y) = tt
 asked_fine size (pos x) (negsuc y) = tt

@@ -20,14 +20,14 @@ use Rattle.go_code.specs.declared.cell.Cell.{Cell}
 use Rattle.go_code.specs.declared.cell.Cell.TheVariants.{Int, Bool as Truth, Text, Slice}
 use Rattle.go_code.specs.declared.ending.PanicKind.TheVariants.{Long, Divide as Divide_by_zero, Slice as Bounds}
 use Rattle.go_code.specs.Operators as operators
-use Rattle.go_code.specs.Operators.{Operated, wrapped, calculated, shifted, joined, bounded, byte_at, byte_of, operands, operate}
+use Rattle.go_code.specs.Operators.{Operated, wrapped, calculated, shifted_integer, concatenated_text, bounded, byte_at, byte_of}
 use Rattle.go_code.specs.Rows.{most_room}
 use Rattle.go_typed.specs.declared.expression.Operator.{Operator}
 use Rattle.go_typed.specs.declared.expression.Operator.TheVariants.{Arithmetic as arithmetic, Shift as shift, Comparison as comparison}
 use Rattle.go_meaning.specs.Values.{Value, single, flat, to_element, part_of}
 use Rattle.go_meaning.specs.Choices.{binary_operators, conversion_operators, length_operators, capacity_operators, cut_operators, operated}
 use Rattle.go_meaning.specs.Meaning.{indexed}
-use Rattle.go_meaning_laws.specs.WellTyped.{is_integer, is_string, is_bool, is_slice, is_text, is_sum, is_compared, IsOperation, Converts, indexed_type, int, byte}
+use Rattle.go_meaning_laws.specs.WellTyped.{is_integer_type, is_string_type, is_bool_type, is_slice, is_text, is_sum, is_compared, IsOperation, Converts, index_result_type, int_type, byte}
 use Rattle.go_meaning_laws.proofs.Shelf.{Shelf, Lies}
 use Rattle.go_meaning_laws.proofs.Values.{Of, both_true, true_both, number_same, flat_long, of_underlying, by_underlying}
 use Rattle.go_meaning_laws.proofs.Parts.{Fine, PartOf, one_step, fine_then}
@@ -99,7 +99,7 @@ lies_cut σ u (suc row) start n c x y k l h = (h.0, h.1, omega (arith, k, l), om
 -- ---- by a shelf
 
 module _ (σ : Shelf) where
-  joined_is : (s t : List ℕ) → is_text s ≡ true → is_text t ≡ true → Fine (λ c. Of σ (basic basics.String) (single c)) (joined s t)
+  joined_is : (s t : List ℕ) → is_text s ≡ true → is_text t ≡ true → Fine (λ c. Of σ (basic basics.String) (single c)) (concatenated_text s t)
   joined_is s t h k = by_test (nat_le (length s + length t) operators.most_bytes) refl
     where
       by_test : (b : Bool) → nat_le (length s + length t) operators.most_bytes ≡ b → Fine (λ c. Of σ (basic basics.String) (single c)) (if b then operators.Gives (Text (s ++ t)) else operators.Panics Long)
@@ -128,7 +128,7 @@ module _ (σ : Shelf) where
       by_test true = tt
       by_test false = (wrapped_fits i (computed op x y), refl, tt)
 
-  shifted_is : (op : ShiftOperator) (i : IntKind) (x y : ℤ) → Fine (λ c. Of σ (basic (basics.Integer i)) (single c)) (shifted op i x y)
+  shifted_is : (op : ShiftOperator) (i : IntKind) (x y : ℤ) → Fine (λ c. Of σ (basic (basics.Integer i)) (single c)) (shifted_integer op i x y)
   shifted_is op i x (negsuc n) = tt
   shifted_is Left i x (pos n) = (wrapped_fits i _, refl, tt)
   shifted_is Right i x (pos n) = (wrapped_fits i _, refl, tt)
@@ -148,13 +148,13 @@ module _ (σ : Shelf) where
   texts_joined : (s : Type') (x y : Value) → IsString s x → IsString s y → Gives_of s (arithmetic Add) x y s
   texts_joined s x y (text a es ex f) (text b et ey g) =
       let all : Gives_of (basic basics.String) (arithmetic Add) (single (Text a)) (single (Text b)) (basic basics.String) =
-      fine_then (λ c. Of σ (basic basics.String) (single c)) (Of σ (basic basics.String)) (joined a b) (λ c. operated [] (single c ∷ [])) (joined_is a b f g) (λ c h. h)
+      fine_then (λ c. Of σ (basic basics.String) (single c)) (Of σ (basic basics.String)) (concatenated_text a b) (λ c. operated [] (single c ∷ [])) (joined_is a b f g) (λ c h. h)
       in
       subst (λ t. Gives_of t (arithmetic Add) x y t) (sym es) (subst (λ v. Gives_of (basic basics.String) (arithmetic Add) v y (basic basics.String)) (sym ex)
       (subst (λ v. Gives_of (basic basics.String) (arithmetic Add) (single (Text a)) v (basic basics.String)) (sym ey) all))
 
   sum_is : (op : ArithmeticOperator) (s : Type') (x y : Value) → is_sum op s ≡ true → Of σ s x → Of σ s y → Gives_of s (arithmetic op) x y s
-  sum_is Add s x y e h k = elim (either_true (is_integer s) (is_string s) e) [
+  sum_is Add s x y e h k = elim (either_true (is_integer_type s) (is_string_type s) e) [
     | inl a ↦ numbers_summed Add s x y (integer_value σ s x a h) (integer_value σ s y a k)
     | inr b ↦ texts_joined s x y (string_value σ s x b h) (string_value σ s y b k)
   ]
@@ -170,7 +170,7 @@ module _ (σ : Shelf) where
   shift_is : (op : ShiftOperator) (s u : Type') (x y : Value) → IsNumber s x → IsNumber u y → Gives_of s (shift op) x y s
   shift_is op s u x y (number i z es ex f) (number j w et ey g) =
       let all : Gives_of (basic (basics.Integer i)) (shift op) (single (Int z)) (single (Int w)) (basic (basics.Integer i)) =
-      fine_then (λ c. Of σ (basic (basics.Integer i)) (single c)) (Of σ (basic (basics.Integer i))) (shifted op i z w) (λ c. operated [] (single c ∷ [])) (shifted_is op i z w) (λ c h. h)
+      fine_then (λ c. Of σ (basic (basics.Integer i)) (single c)) (Of σ (basic (basics.Integer i))) (shifted_integer op i z w) (λ c. operated [] (single c ∷ [])) (shifted_is op i z w) (λ c h. h)
       in
       subst (λ t. Gives_of t (shift op) x y t) (sym es) (subst (λ v. Gives_of (basic (basics.Integer i)) (shift op) v y (basic (basics.Integer i))) (sym ex)
       (subst (λ v. Gives_of (basic (basics.Integer i)) (shift op) (single (Int z)) v (basic (basics.Integer i))) (sym ey) all))
@@ -214,8 +214,8 @@ module _ (σ : Shelf) where
       each Greater o = (_, refl)
       each GreaterOrEqual o = (_, refl)
 
-  ordered : (op : ComparisonOperator) (s : Type') (x y : Value) → is_order op ≡ true → (is_integer s || is_string s) ≡ true → Of σ s x → Of σ s y → Compares s op x y
-  ordered op s x y o e h k = elim (either_true (is_integer s) (is_string s) e) [
+  ordered : (op : ComparisonOperator) (s : Type') (x y : Value) → is_order op ≡ true → (is_integer_type s || is_string_type s) ≡ true → Of σ s x → Of σ s y → Compares s op x y
+  ordered op s x y o e h k = elim (either_true (is_integer_type s) (is_string_type s) e) [
     | inl a ↦ numbers_ordered op s x y o (integer_value σ s x a h) (integer_value σ s y a k)
     | inr b ↦ texts_ordered op s x y o (string_value σ s x b h) (string_value σ s y b k)
   ]
@@ -229,7 +229,7 @@ module _ (σ : Shelf) where
   compared_is GreaterOrEqual s x y e h k = ordered GreaterOrEqual s x y refl e h k
 
   -- a truth value of a type of such
-  truth_of : (t : Type') (o : Operated Value) → is_bool (underlying t) ≡ true → Fine IsTruth o → Fine (Of σ t) o
+  truth_of : (t : Type') (o : Operated Value) → is_bool_type (underlying t) ≡ true → Fine IsTruth o → Fine (Of σ t) o
   truth_of t (operators.Gives v) e h = subst (λ u. Of σ t u) (sym h.1) (by_underlying σ t (single (Truth h.0)) (truth_is σ (underlying t) h.0 e))
   truth_of t (operators.Panics kind) e h = tt
   truth_of t operators.Senseless e h = absurd h
@@ -252,7 +252,7 @@ module _ (σ : Shelf) where
 
   -- ---- conversions
 
-  converts_number : (s u : Type') (v : Value) → IsNumber s v → is_integer u ≡ true → Fine (Of σ u) (operated (conversion_operators u) (v ∷ []))
+  converts_number : (s u : Type') (v : Value) → IsNumber s v → is_integer_type u ≡ true → Fine (Of σ u) (operated (conversion_operators u) (v ∷ []))
   converts_number s (basic (basics.Integer j)) v (number i z es ev f) e =
       subst (λ w. Fine (Of σ (basic (basics.Integer j))) (operated (conversion_operators (basic (basics.Integer j))) (w ∷ []))) (sym ev) (wrapped_fits j z, refl, tt)
   converts_number s (basic basics.Bool) v n e = absurd (cc)
@@ -273,7 +273,7 @@ module _ (σ : Shelf) where
   converts_same (struct fs) v h = h
   converts_same (named p x t) v h = h
 
-  converts_truth : (u : Type') (v : Value) → IsTruth v → is_bool u ≡ true → Fine (Of σ u) (operated (conversion_operators u) (v ∷ []))
+  converts_truth : (u : Type') (v : Value) → IsTruth v → is_bool_type u ≡ true → Fine (Of σ u) (operated (conversion_operators u) (v ∷ []))
   converts_truth u v h e = subst (λ w. Fine (Of σ u) (operated (conversion_operators u) (w ∷ []))) (sym h.1) (converts_same u (single (Truth h.0)) (truth_is σ u h.0 e))
 
   pub conversion_is : (t u : Type') (v : Value) → Converts (underlying t) (underlying u) → Of σ t v → Fine (Of σ u) (operated (conversion_operators (underlying u)) (v ∷ []))
@@ -300,7 +300,7 @@ module _ (σ : Shelf) where
       subst (λ w. Fine (Of σ byte) (indexed (basic basics.String) w (single (Int z)))) (sym ev)
       (fine_then (λ c. Of σ byte (single c)) (Of σ byte) (byte_at s z) (λ c. operated [] (single c ∷ [])) (byte_at_is s z f) (λ c h. h))
 
-  indexed_at : (s t : Type') (v : Value) (z : ℤ) → is_slice s ≡ false → indexed_type s ≡ Some t → Of σ s v → Fine (Of σ t) (indexed s v (single (Int z)))
+  indexed_at : (s t : Type') (v : Value) (z : ℤ) → is_slice s ≡ false → index_result_type s ≡ Some t → Of σ s v → Fine (Of σ t) (indexed s v (single (Int z)))
   indexed_at (array n u) t v z other e h = subst (λ w. Fine (Of σ w) (part_of v (to_element z))) (let same : u ≡ t = cc in same) (element_is n u v z h)
   indexed_at (basic basics.String) t v z other e h =
       subst (λ w. Fine (Of σ w) (indexed (basic basics.String) v (single (Int z)))) (let same : byte ≡ t = cc in same) (byte_of_is v z (string_value σ (basic basics.String) v refl h))
@@ -312,14 +312,14 @@ module _ (σ : Shelf) where
   indexed_at (named p x u) t v z other e h = absurd (cc)
 
   -- of what isn't a slice
-  pub indexed_is : (s t i : Type') (v j : Value) → is_slice s ≡ false → indexed_type s ≡ Some t → is_integer (underlying i) ≡ true → Of σ s v → Of σ i j → Fine (Of σ t) (indexed s v j)
+  pub indexed_is : (s t i : Type') (v j : Value) → is_slice s ≡ false → index_result_type s ≡ Some t → is_integer_type (underlying i) ≡ true → Of σ s v → Of σ i j → Fine (Of σ t) (indexed s v j)
   indexed_is s t i v j other e k h g = by_number (integer_value σ (underlying i) j k (of_underlying σ i j g))
     where
       by_number : IsNumber (underlying i) j → Fine (Of σ t) (indexed s v j)
       by_number (number kind z es ej f) = subst (λ w. Fine (Of σ t) (indexed s v w)) (sym ej) (indexed_at s t v z other e h)
 
   -- of so many elements of a slice
-  pub element_found : (n : ℕ) (t i : Type') (whole j : Value) → is_integer (underlying i) ≡ true → Of σ (array n t) whole → Of σ i j → Fine (Of σ t) (indexed (slice t) whole j)
+  pub element_found : (n : ℕ) (t i : Type') (whole j : Value) → is_integer_type (underlying i) ≡ true → Of σ (array n t) whole → Of σ i j → Fine (Of σ t) (indexed (slice t) whole j)
   element_found n t i whole j k h g = by_number (integer_value σ (underlying i) j k (of_underlying σ i j g))
     where
       by_number : IsNumber (underlying i) j → Fine (Of σ t) (indexed (slice t) whole j)
@@ -327,32 +327,32 @@ module _ (σ : Shelf) where
 
   -- ---- lengths and capacities
 
-  int_is : (n : ℕ) → n ≤ most_room → Of σ int (single (Int (pos n)))
+  int_is : (n : ℕ) → n ≤ most_room → Of σ int_type (single (Int (pos n)))
   unfolding Rattle.go_code.specs.Rows.most_room
   int_is n small = (lt-ltb n 9223372036854775808 (omega (arith, small)), refl, tt)
 
-  text_long : (v : Value) (s : Type') → IsString s v → Fine (Of σ int) (operated (length_operators s) (v ∷ []))
+  text_long : (v : Value) (s : Type') → IsString s v → Fine (Of σ int_type) (operated (length_operators s) (v ∷ []))
   text_long v s (text bytes es ev f) =
-      subst (λ t. Fine (Of σ int) (operated (length_operators t) (v ∷ []))) (sym es)
-      (subst (λ w. Fine (Of σ int) (operated (length_operators (basic basics.String)) (w ∷ []))) (sym ev)
+      subst (λ t. Fine (Of σ int_type) (operated (length_operators t) (v ∷ []))) (sym es)
+      (subst (λ w. Fine (Of σ int_type) (operated (length_operators (basic basics.String)) (w ∷ []))) (sym ev)
       ((both_true (list_all (λ b. nat_lt b 256) bytes) (fits (Some integers.Int) (pos (length bytes))) f).1, refl, tt))
 
-  slice_long : (v : Value) (s : Type') → IsSlice σ s v → Fine (Of σ int) (operated (length_operators s) (v ∷ []))
+  slice_long : (v : Value) (s : Type') → IsSlice σ s v → Fine (Of σ int_type) (operated (length_operators s) (v ∷ []))
   slice_long v s (piece u row start n c es ev lies) =
-      subst (λ t. Fine (Of σ int) (operated (length_operators t) (v ∷ []))) (sym es)
-      (subst (λ w. Fine (Of σ int) (operated (length_operators (slice u)) (w ∷ []))) (sym ev) (int_is n (lies_small σ u row start n c lies).0))
+      subst (λ t. Fine (Of σ int_type) (operated (length_operators t) (v ∷ []))) (sym es)
+      (subst (λ w. Fine (Of σ int_type) (operated (length_operators (slice u)) (w ∷ []))) (sym ev) (int_is n (lies_small σ u row start n c lies).0))
 
-  pub length_is : (s : Type') (v : Value) → (is_string (underlying s) || is_slice (underlying s)) ≡ true → Of σ s v → Fine (Of σ int) (operated (length_operators (underlying s)) (v ∷ []))
-  length_is s v e h = elim (either_true (is_string (underlying s)) (is_slice (underlying s)) e) [
+  pub length_is : (s : Type') (v : Value) → (is_string_type (underlying s) || is_slice (underlying s)) ≡ true → Of σ s v → Fine (Of σ int_type) (operated (length_operators (underlying s)) (v ∷ []))
+  length_is s v e h = elim (either_true (is_string_type (underlying s)) (is_slice (underlying s)) e) [
     | inl a ↦ text_long v (underlying s) (string_value σ (underlying s) v a (of_underlying σ s v h))
     | inr b ↦ slice_long v (underlying s) (slice_value σ (underlying s) v b (of_underlying σ s v h))
   ]
 
-  slice_room : (v : Value) (s : Type') → IsSlice σ s v → Fine (Of σ int) (operated capacity_operators (v ∷ []))
+  slice_room : (v : Value) (s : Type') → IsSlice σ s v → Fine (Of σ int_type) (operated capacity_operators (v ∷ []))
   slice_room v s (piece u row start n c es ev lies) =
-      subst (λ w. Fine (Of σ int) (operated capacity_operators (w ∷ []))) (sym ev) (int_is c (lies_small σ u row start n c lies).1)
+      subst (λ w. Fine (Of σ int_type) (operated capacity_operators (w ∷ []))) (sym ev) (int_is c (lies_small σ u row start n c lies).1)
 
-  pub capacity_is : (s : Type') (v : Value) → is_slice (underlying s) ≡ true → Of σ s v → Fine (Of σ int) (operated capacity_operators (v ∷ []))
+  pub capacity_is : (s : Type') (v : Value) → is_slice (underlying s) ≡ true → Of σ s v → Fine (Of σ int_type) (operated capacity_operators (v ∷ []))
   capacity_is s v e h = slice_room v (underlying s) (slice_value σ (underlying s) v e (of_underlying σ s v h))
 
   -- ---- cuts
@@ -395,11 +395,11 @@ module _ (σ : Shelf) where
       subst (λ t. Fine (Of σ t) (operated (cut_operators t) (v ∷ single (Int x) ∷ single (Int y) ∷ []))) (sym es)
       (subst (λ w. Fine (Of σ (slice u)) (operated (cut_operators (slice u)) (w ∷ single (Int x) ∷ single (Int y) ∷ []))) (sym ev) all)
 
-  cut_numbers : (s i j : Type') (v x y : Value) → (is_string s || is_slice s) ≡ true → Of σ s v → IsNumber i x → IsNumber j y → Fine (Of σ s) (operated (cut_operators s) (v ∷ x ∷ y ∷ []))
+  cut_numbers : (s i j : Type') (v x y : Value) → (is_string_type s || is_slice s) ≡ true → Of σ s v → IsNumber i x → IsNumber j y → Fine (Of σ s) (operated (cut_operators s) (v ∷ x ∷ y ∷ []))
   cut_numbers s i j v x y e h (number ki a ei ea fa) (number kj b ej eb fb) =
       subst (λ w. Fine (Of σ s) (operated (cut_operators s) (v ∷ w ∷ y ∷ []))) (sym ea)
       (subst (λ w. Fine (Of σ s) (operated (cut_operators s) (v ∷ single (Int a) ∷ w ∷ []))) (sym eb)
-      (elim (either_true (is_string s) (is_slice s) e) [
+      (elim (either_true (is_string_type s) (is_slice s) e) [
         | inl is ↦ text_cut s v a b (string_value σ s v is h)
         | inr is ↦ slice_cut s v a b (slice_value σ s v is h)
       ]))
@@ -411,14 +411,14 @@ module _ (σ : Shelf) where
   sliced_cell s v (piece u row start n c es ev lies) = (Slice row start n c, ev)
 
   -- what is cut is one cell
-  pub one_cell : (s : Type') (v : Value) → (is_string s || is_slice s) ≡ true → Of σ s v → (c : Cell) × (v ≡ single c)
-  one_cell s v e h = elim (either_true (is_string s) (is_slice s) e) [
+  pub one_cell : (s : Type') (v : Value) → (is_string_type s || is_slice s) ≡ true → Of σ s v → (c : Cell) × (v ≡ single c)
+  one_cell s v e h = elim (either_true (is_string_type s) (is_slice s) e) [
     | inl a ↦ celled s v (string_value σ s v a h)
     | inr b ↦ sliced_cell s v (slice_value σ s v b h)
   ]
 
   -- bounds are numbers of any integer types
-  pub cut_is : (t i j : Type') (v x y : Value) → (is_string (underlying t) || is_slice (underlying t)) ≡ true → is_integer (underlying i) ≡ true → is_integer (underlying j) ≡ true → Of σ t v → Of σ i x → Of σ j y → Fine (Of σ t) (operated (cut_operators (underlying t)) (v ∷ x ∷ y ∷ []))
+  pub cut_is : (t i j : Type') (v x y : Value) → (is_string_type (underlying t) || is_slice (underlying t)) ≡ true → is_integer_type (underlying i) ≡ true → is_integer_type (underlying j) ≡ true → Of σ t v → Of σ i x → Of σ j y → Fine (Of σ t) (operated (cut_operators (underlying t)) (v ∷ x ∷ y ∷ []))
   cut_is t i j v x y e k l h hx hy =
       fine_under σ t _ (cut_numbers (underlying t) (underlying i) (underlying j) v x y e (of_underlying σ t v h)
       (integer_value σ (underlying i) x k (of_underlying σ i x hx)) (integer_value σ (underlying j) y l (of_underlying σ j y hy)))

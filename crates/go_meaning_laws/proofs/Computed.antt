@@ -14,8 +14,8 @@ use Rattle.go_types.specs.Types.{Type'}
 use Rattle.go_typed.specs.declared.expression.Operator.TheVariants.{Arithmetic as arithmetic, Comparison as comparison}
 use Rattle.go_typed.specs.Trees.{Symbol, constant, local, index, binary, conversion, call, here, to_element, of_local, each, zeros, Stmt, define, update, print, if_statement, range_statement, return, no_stmts, pack_exprs, pack_stmts, Function, Package}
 use Rattle.go_meaning.specs.Meaning.{Stored, Stuck}
-use Rattle.go_meaning.specs.Programs.{Declared, calls, run}
-use Rattle.go_meaning_laws.specs.WellTyped.{setting, IsExpr, IsWhole, IsFunction, IsStart, IsWellTyped}
+use Rattle.go_meaning.specs.Programs.{DeclaredFunction, calls, run_program}
+use Rattle.go_meaning_laws.specs.WellTyped.{setting, IsExpr, IsWhole, IsWellTypedFunction, IsWellTypedStart, IsWellTyped}
 use Rattle.go_meaning_laws.proofs.Programs.{never_stuck}
 
 abbrev int : Type'
@@ -71,10 +71,10 @@ main = main_of (three ∷ int ∷ []) (
 abbrev program : List Package
 program = package_of (sum ∷ main ∷ [])
 
-sum_is : IsFunction program sum
+sum_is : IsWellTypedFunction program sum
 sum_is = record { body = (((((refl, refl), (refl, refl), (refl, refl, refl)), tt), (refl, tt)), tt); ended = refl }
 
-main_is : IsFunction program main
+main_is : IsWellTypedFunction program main
 unfolding Rattle.go_meaning.specs.Meaning.most_cells
 main_is = record {
   body = (
@@ -100,24 +100,24 @@ main_is = record {
     element : IsExpr (setting program main) (1 ∷ 0 ∷ []) (index int (local three 0) (local int 1))
     element = ((refl, refl), (refl, refl), refl, refl)
 
-abbrev declared : Function → Declared
+abbrev declared : Function → DeclaredFunction
 declared f = record { symbol = record { path = codes "app"; name = f.name }; function = f }
 
-abbrev Typed : Declared → Type 0
-Typed d = IsFunction program d.function
+abbrev Typed : DeclaredFunction → Type 0
+Typed d = IsWellTypedFunction program d.function
 
 pub is_typed : IsWellTyped program
 is_typed = record {
   functions = All-cons Typed (declared sum) (declared main ∷ []) sum_is (All-cons Typed (declared main) [] main_is (All-nil Typed));
   variables = All-nil (λ (v : Stored). IsWhole v.of);
-  start = All-cons (IsStart program) (calls (record { path = codes "app"; name = codes "main" })) [] refl (All-nil (IsStart program));
+  start = All-cons (IsWellTypedStart program) (calls (record { path = codes "app"; name = codes "main" })) [] refl (All-nil (IsWellTypedStart program));
 }
 
 -- fmt.Println(n), where n has no value yet
 abbrev unset : List Package
 unset = package_of (main_of (int ∷ []) (print (pack_exprs (local int 0 ∷ [])) ∷ []) ∷ [])
 
-pub unset_is_stuck : run unset 1 ≡ Stuck
+pub unset_is_stuck : run_program unset 1 ≡ Stuck
 unfolding Rattle.go_text.specs.Editions.most_open
 unset_is_stuck = refl
 

@@ -8,10 +8,10 @@ use Rattle.go_const.specs.declared.kind.IntKind.TheVariants as integers
 use Rattle.go_types.specs.declared.types.Basic.TheVariants as basics
 use Rattle.go_types.specs.Types as types
 use Rattle.go_types.specs.Types.{Type'}
-use Rattle.go_typed.specs.Trees.{Expr, constant, call, no_exprs, each, results, no_stmts, return, pack_exprs, pack_stmts, Function, Initialization, Package, Symbol}
+use Rattle.go_typed.specs.Trees.{constant, no_exprs, each, results, no_stmts, return, pack_exprs, pack_stmts, Function, Initialization, Package, Symbol}
 use Rattle.go_meaning.specs.Meaning.{Stored, Stuck}
-use Rattle.go_meaning.specs.Programs.{Declared, Step, sets, calls, package_functions, run}
-use Rattle.go_meaning_laws.specs.WellTyped.{IsWhole, IsFunction, IsStart, IsWellTyped}
+use Rattle.go_meaning.specs.Programs.{DeclaredFunction, StartStep, sets, calls, run_program}
+use Rattle.go_meaning_laws.specs.WellTyped.{IsWhole, IsWellTypedFunction, IsWellTypedStart, IsWellTyped}
 use Rattle.go_meaning_laws.proofs.Programs.{never_stuck}
 
 abbrev int : Type'
@@ -57,22 +57,22 @@ with_variable t = record {
 abbrev program : List Package
 program = with_variable int
 
-abbrev declared : Function → Declared
+abbrev declared : Function → DeclaredFunction
 declared f = record { symbol = record { path = codes "app"; name = f.name }; function = f }
 
-abbrev Typed : Declared → Type 0
-Typed d = IsFunction program d.function
+abbrev Typed : DeclaredFunction → Type 0
+Typed d = IsWellTypedFunction program d.function
 
 abbrev Whole : Stored → Type 0
 Whole v = IsWhole v.of
 
-both_is : IsFunction program both
+both_is : IsWellTypedFunction program both
 both_is = record { body = ((((refl, refl), ((refl, refl), tt)), (refl, (refl, tt))), tt); ended = refl }
 
-main_is : IsFunction program main
+main_is : IsWellTypedFunction program main
 main_is = record { body = tt; ended = refl }
 
-abbrev ends : Step
+abbrev ends : StartStep
 ends = calls (record { path = codes "app"; name = codes "main" })
 
 pub is_typed : IsWellTyped program
@@ -80,11 +80,11 @@ unfolding Rattle.go_meaning.specs.Meaning.most_cells
 is_typed = record {
   functions = All-cons Typed (declared both) (declared main ∷ []) both_is (All-cons Typed (declared main) [] main_is (All-nil Typed));
   variables = All-cons Whole _ [] refl (All-nil Whole);
-  start = All-cons (IsStart program) (sets (codes "app") taken) (ends ∷ []) ((tt, refl), ((int, refl, refl), tt)) (All-cons (IsStart program) ends [] refl (All-nil (IsStart program)));
+  start = All-cons (IsWellTypedStart program) (sets (codes "app") taken) (ends ∷ []) ((tt, refl), ((int, refl, refl), tt)) (All-cons (IsWellTypedStart program) ends [] refl (All-nil (IsWellTypedStart program)));
 }
 
 -- var a, _ = pair(), where a is a string
-pub other_is_stuck : run (with_variable string) 9 ≡ Stuck
+pub other_is_stuck : run_program (with_variable string) 9 ≡ Stuck
 unfolding Rattle.go_meaning.specs.Meaning.most_cells Rattle.go_text.specs.Editions.most_open
 other_is_stuck = refl
 

@@ -1,16 +1,17 @@
-pub mod Arrays
-pub mod Binary
-pub mod Computed
-pub mod ComputedStarts
-pub mod Exprs
-pub mod Flows
-pub mod Operators
-pub mod Parts
+mod Arrays
+mod Binary
+mod Computed
+mod ComputedStarts
+mod Exprs
+mod Flows
+mod Operators
+mod Parts
 pub mod Programs
-pub mod Shelf
-pub mod Slices
-pub mod Statements
-pub mod Switches
-pub mod Targets
+mod Shelf
+mod Slices
+mod Statements
+mod Switches
+mod Targets
+mod Ticks
 pub mod Values
-pub mod Worlds
+mod Worlds

@@ -15,10 +15,10 @@ use Rattle.go_types.specs.Relations.{underlying}
 use Rattle.go_code.specs.declared.cell.Cell.{Cell}
 use Rattle.go_code.specs.declared.cell.Cell.TheVariants.{Int, Bool as Truth, Text, Slice}
 use Rattle.go_code.specs.Operators as operators
-use Rattle.go_code.specs.Operators.{Operated, wrapped, calculated, shifted, joined, byte_at, byte_of, operands, operate}
+use Rattle.go_code.specs.Operators.{Operated, wrapped}
 use Rattle.go_meaning.specs.Values.{Value, single, parts}
 use Rattle.go_meaning.specs.Choices.{unary_operators, operated}
-use Rattle.go_meaning_laws.specs.WellTyped.{is_integer, is_string, is_bool, is_slice, is_text, is_unary}
+use Rattle.go_meaning_laws.specs.WellTyped.{is_integer_type, is_string_type, is_bool_type, is_slice, is_text, is_unary}
 use Rattle.go_meaning_laws.proofs.Shelf.{Shelf, Lies}
 use Rattle.go_meaning_laws.proofs.Values.{Of, of_underlying, by_underlying}
 use Rattle.go_meaning_laws.proofs.Parts.{Fine}
@@ -81,7 +81,7 @@ wrapped_fits kind z =
 -- ---- by a shelf
 
 module _ (σ : Shelf) where
-  pub integer_value : (s : Type') (v : Value) → is_integer s ≡ true → Of σ s v → IsNumber s v
+  pub integer_value : (s : Type') (v : Value) → is_integer_type s ≡ true → Of σ s v → IsNumber s v
   integer_value (basic (basics.Integer i)) (single (Int z)) e h = number i z refl refl h.0
   integer_value (basic (basics.Integer i)) (single (Truth b)) e h = absurd (cc)
   integer_value (basic (basics.Integer i)) (single (Text t)) e h = absurd (cc)
@@ -95,7 +95,7 @@ module _ (σ : Shelf) where
   integer_value (struct fs) v e h = absurd (cc)
   integer_value (named p x t) v e h = absurd (cc)
 
-  pub string_value : (s : Type') (v : Value) → is_string s ≡ true → Of σ s v → IsString s v
+  pub string_value : (s : Type') (v : Value) → is_string_type s ≡ true → Of σ s v → IsString s v
   string_value (basic basics.String) (single (Text t)) e h = text t refl refl h.1
   string_value (basic basics.String) (single (Int z)) e h = absurd (cc)
   string_value (basic basics.String) (single (Truth b)) e h = absurd (cc)
@@ -109,7 +109,7 @@ module _ (σ : Shelf) where
   string_value (struct fs) v e h = absurd (cc)
   string_value (named p x t) v e h = absurd (cc)
 
-  pub bool_value : (s : Type') (v : Value) → is_bool s ≡ true → Of σ s v → IsTruth v
+  pub bool_value : (s : Type') (v : Value) → is_bool_type s ≡ true → Of σ s v → IsTruth v
   bool_value (basic basics.Bool) (single (Truth b)) e h = (b, refl)
   bool_value (basic basics.Bool) (single (Int z)) e h = absurd (cc)
   bool_value (basic basics.Bool) (single (Text t)) e h = absurd (cc)
@@ -142,7 +142,7 @@ module _ (σ : Shelf) where
   slice_value (named p x t) v e h = absurd (cc)
 
   -- of a type of truth values any is one
-  pub truth_is : (s : Type') (b : Bool) → is_bool s ≡ true → Of σ s (single (Truth b))
+  pub truth_is : (s : Type') (b : Bool) → is_bool_type s ≡ true → Of σ s (single (Truth b))
   truth_is (basic basics.Bool) b e = (refl, refl, tt)
   truth_is (basic (basics.Untyped kinds.Bool)) b e = (refl, refl, tt)
   truth_is (basic (basics.Untyped kinds.Int)) b e = absurd (cc)

@@ -14,15 +14,16 @@ use Rattle.go_typed.specs.Trees.{Symbol, Function, Initialization, Package}
 use Rattle.go_typed.specs.Terminating.{list_terminates, breaks_any}
 use Rattle.go_meaning.specs.Values.{Value, zero_of}
 use Rattle.go_symbol.specs.Symbols.{same_symbol}
-use Rattle.go_meaning.specs.Meaning.{Stored, World, Outcome, Gives, Ends, Stuck, Local, Flow, Normal, Breaks, Continues, Returns, and_then, with_tick, source, exec_all}
-use Rattle.go_meaning.specs.Programs.{results_of, enter, with_arguments, first_locals, Declared, package_functions, function_at, call_at, Step, sets, calls, start_steps, step, stored, step_all, first_variables, first_world, edition_of, last_package, run, IsOver, IsProgram, SourceMeaning}
-use Rattle.go_meaning_laws.specs.WellTyped.{has, first, signature_at, variable_at, setting, are_none, source_types, outside, IsWhole, after_all, IsFunction, IsStart, IsWellTyped}
+use Rattle.go_meaning.specs.Meaning.{Stored, ProgramState, Outcome, Gives, Ends, Stuck, Local, Flow, Normal, Breaks, Continues, Returns, and_then, with_tick, source, exec_all}
+use Rattle.go_meaning.specs.Programs.{results_of, enter_function, with_arguments, first_locals, DeclaredFunction, package_functions, function_by_symbol, call_at, StartStep, sets, calls, start_steps, start_step, stored_variables, run_steps, first_variables, first_world, program_edition, last_package, run_program, IsOver, IsProgram, SourceMeaning}
+use Rattle.go_meaning_laws.specs.WellTyped.{has, first, signature_at, variable_at, setting, are_none, source_types, package_setting, IsWhole, declared_after_all, IsWellTypedFunction, IsWellTypedStart, IsWellTyped}
 use Rattle.go_meaning_laws.proofs.Shelf.{Shelf, grows_not}
 use Rattle.go_meaning_laws.proofs.Values.{Of, AllOf, all_are, zero_is}
 use Rattle.go_meaning_laws.proofs.Worlds.{Sound, sound_then, Stores, Keeps, Held, Fits, stored_is}
 use Rattle.go_meaning_laws.proofs.Targets.{source_evals}
 use Rattle.go_meaning_laws.proofs.Exprs.{AllValued, Answers}
 use Rattle.go_meaning_laws.proofs.Flows.{Leaves, ticked}
+use Rattle.go_meaning_laws.proofs.Ticks.{call_ticks}
 use Rattle.go_meaning_laws.proofs.Statements.{stmts_leave}
 
 -- ---- what is found in a list
@@ -90,76 +91,80 @@ locals_fit σ f vs h = record { each = λ n t e. (let r = rows σ f.parameters f
 -- ---- calls
 
 module _ (packages : List Package) (typed : IsWellTyped packages) where
-  abbrev Answer : List Type' → List Value → Shelf → World → Type 0
+  abbrev Answer : List Type' → List Value → Shelf → ProgramState → Type 0
   Answer = AllValued (variable_at packages)
 
   -- a function that is found is well typed
-  found_function : (s : Symbol) (f : Function) → function_at packages s ≡ Some f → IsFunction packages f
+  found_function : (s : Symbol) (f : Function) → function_by_symbol packages s ≡ Some f → IsWellTypedFunction packages f
   found_function s f e =
       let m = mapped (λ d. d.function) (find (λ d. same_symbol s d.symbol) (flat_map package_functions packages)) f e in
-      subst (IsFunction packages) m.2 (found_all (λ (d : Declared). IsFunction packages d.function) (λ d. same_symbol s d.symbol) (flat_map package_functions packages) m.0 typed.functions m.1)
+      subst (IsWellTypedFunction packages) m.2 (found_all (λ (d : DeclaredFunction). IsWellTypedFunction packages d.function) (λ d. same_symbol s d.symbol) (flat_map package_functions packages) m.0 typed.functions m.1)
 
   no_results : (σ : Shelf) (ts : List Type') (ends : Bool) → (are_none ts || ends) ≡ true → ends ≡ false → AllOf σ ts []
   no_results σ [] ends e n = tt
   no_results σ (t ∷ ts) true e n = absurd (cc)
   no_results σ (t ∷ ts) false e n = absurd (cc)
 
-  left_body : (f : Function) → IsFunction packages f → (d : List ℕ) (breaks : Bool) (flow : Flow) (σ : Shelf) (w : World) → Leaves (setting packages f) (first (length f.parameters)) d (list_terminates f.body) breaks flow σ w → Sound σ (Answer f.results) (results_of flow w)
+  left_body : (f : Function) → IsWellTypedFunction packages f → (d : List ℕ) (breaks : Bool) (flow : Flow) (σ : Shelf) (w : ProgramState) → Leaves (setting packages f) (first (length f.parameters)) d (list_terminates f.body) breaks flow σ w → Sound σ (Answer f.results) (results_of flow w)
   left_body f is d breaks (Normal ls) σ w l = (σ, grows_not σ, (no_results σ f.results (list_terminates f.body) is.ended l.1, (l.0).1))
   left_body f is d breaks (Breaks ls) σ w l = (let k = l.1 in absurd (cc))
   left_body f is d breaks (Continues ls) σ w l = (let k = l.1 in absurd (cc))
   left_body f is d breaks (Returns vs) σ w l = (σ, grows_not σ, l)
 
   -- what is called is found, takes such arguments and gives such results
-  entered : (s : Symbol) (ps rs : List Type') (vs : List Value) (σ : Shelf) (w : World) (next : Function → World → Outcome (List Value)) → signature_at packages s ≡ Some (record { parameters = ps; results = rs }) → AllOf σ ps vs → ((f : Function) → IsFunction packages f → AllOf σ f.parameters vs → (n : ℕ) → Sound σ (Answer f.results) (next f (record w { ticks = n }))) → Sound σ (Answer rs) (enter (function_at packages s) vs w next)
+  entered : (s : Symbol) (ps rs : List Type') (vs : List Value) (σ : Shelf) (w : ProgramState) (next : Function → ProgramState → Outcome (List Value)) → signature_at packages s ≡ Some (record { parameters = ps; results = rs }) → AllOf σ ps vs → ((f : Function) → IsWellTypedFunction packages f → AllOf σ f.parameters vs → (n : ℕ) → Sound σ (Answer f.results) (next f (record w { ticks = n }))) → Sound σ (Answer rs) (enter_function (function_by_symbol packages s) vs w next)
   entered s ps rs vs σ w next e h goes =
-      let m = mapped (λ f. record { parameters = f.parameters; results = f.results }) (function_at packages s) (record { parameters = ps; results = rs }) e in
+      let m = mapped (λ f. record { parameters = f.parameters; results = f.results }) (function_by_symbol packages s) (record { parameters = ps; results = rs }) e in
       let f : Function = m.0 in
       let takes : f.parameters ≡ ps = ap (λ q. q.parameters) m.2 in
       let gives : f.results ≡ rs = ap (λ q. q.results) m.2 in
       let arguments : AllOf σ f.parameters vs = subst (λ q. AllOf σ q vs) (sym takes) h in
       let body : Sound σ (Answer f.results) (with_tick w (next f)) = ticked (Answer f.results) σ w (next f) (goes f (found_function s f m.1) arguments) in
-      subst (λ o. Sound σ (Answer rs) (enter o vs w next)) (sym m.1)
+      subst (λ o. Sound σ (Answer rs) (enter_function o vs w next)) (sym m.1)
       (subst (λ b. Sound σ (Answer rs) (if b then with_tick w (next f) else Stuck)) (sym (all_are σ f.parameters vs arguments)) (subst (λ q. Sound σ (Answer q) (with_tick w (next f))) gives body))
 
   pub calls_answer : (left : ℕ) → Answers (signature_at packages) (variable_at packages) (call_at packages left)
-  calls_answer zero = record { each = λ s ps rs vs σ w e h good. entered s ps rs vs σ w (λ f w1. Ends (Panicked Depth) w1.output) e h (λ f is k n. tt) }
+  calls_answer zero = record {
+    each = λ s ps rs vs σ w e h good. entered s ps rs vs σ w (λ f w1. Ends (Panicked Depth) w1.output) e h (λ f is k n. tt);
+    ticks = λ n s vs w le. call_ticks n packages zero s vs w le;
+  }
   calls_answer (suc left) = record {
     each = λ s ps rs vs σ w e h good.
         entered s ps rs vs σ w (λ f w1. and_then (exec_all (call_at packages left) f.body (first_locals f vs) w1) results_of) e h
         (λ f is k n.
-        sound_then σ (Leaves (setting packages f) (first (length f.parameters)) (after_all (first (length f.parameters)) f.body) (list_terminates f.body) (breaks_any f.body)) (Answer f.results)
+        sound_then σ (Leaves (setting packages f) (first (length f.parameters)) (declared_after_all (first (length f.parameters)) f.body) (list_terminates f.body) (breaks_any f.body)) (Answer f.results)
         (exec_all (call_at packages left) f.body (first_locals f vs) (record w { ticks = n })) results_of
         (stmts_leave (call_at packages left) (setting packages f) (first (length f.parameters)) (calls_answer left) f.body is.body (first_locals f vs) σ (record w { ticks = n }) (locals_fit σ f vs k, good))
-        (λ flow σ1 w1 grown1. left_body f is (after_all (first (length f.parameters)) f.body) (breaks_any f.body) flow σ1 w1));
+        (λ flow σ1 w1 grown1. left_body f is (declared_after_all (first (length f.parameters)) f.body) (breaks_any f.body) flow σ1 w1));
+    ticks = λ n s vs w le. call_ticks n packages (suc left) s vs w le;
   }
 
   -- ---- the start
 
-  abbrev Starting : ⊤ → Shelf → World → Type 0
+  abbrev Starting : ⊤ → Shelf → ProgramState → Type 0
   Starting done σ w = Keeps (variable_at packages) σ w
 
   none_fit : (σ : Shelf) → Fits σ [] [] []
   none_fit σ = record { each = λ n t e. absurd (cc) }
 
   -- variables of a package get values of their types
-  set_goes : (left : ℕ) (path : List ℕ) (i : Initialization) (σ : Shelf) (w : World) → IsStart packages (sets path i) → Keeps (variable_at packages) σ w → Sound σ Starting (step (call_at packages left) (sets path i) w)
+  set_goes : (left : ℕ) (path : List ℕ) (i : Initialization) (σ : Shelf) (w : ProgramState) → IsWellTypedStart packages (sets path i) → Keeps (variable_at packages) σ w → Sound σ Starting (start_step (call_at packages left) (sets path i) w)
   set_goes left path i σ w is good =
-      sound_then σ (AllValued (variable_at packages) (source_types i.source)) Starting (source (call_at packages left) i.source [] w) (stored path i.variables)
-      (source_evals (call_at packages left) (outside packages) [] (calls_answer left) i.source [] σ w is.0 (none_fit σ, good))
+      sound_then σ (AllValued (variable_at packages) (source_types i.source)) Starting (source (call_at packages left) i.source [] w) (stored_variables path i.variables)
+      (source_evals (call_at packages left) (package_setting packages) [] (calls_answer left) i.source [] σ w is.0 (none_fit σ, good))
       (λ vs σ1 w1 grown1 l. (let r = stored_is σ1 (variable_at packages) path i.variables (source_types i.source) vs w1.variables is.1 l.0 (l.1).0 in rw (r.1) (σ1, grows_not σ1, (r.2, (l.1).1))))
 
-  steps_go : (left : ℕ) (ss : List Step) (σ : Shelf) (w : World) → All (IsStart packages) ss → Keeps (variable_at packages) σ w → Sound σ Starting (step_all (call_at packages left) ss w)
+  steps_go : (left : ℕ) (ss : List StartStep) (σ : Shelf) (w : ProgramState) → All (IsWellTypedStart packages) ss → Keeps (variable_at packages) σ w → Sound σ Starting (run_steps (call_at packages left) ss w)
   steps_go left [] σ w all good = (σ, grows_not σ, good)
   steps_go left (sets path i ∷ ss) σ w all good =
-      sound_then σ Starting Starting (step (call_at packages left) (sets path i) w) (λ done w1. step_all (call_at packages left) ss w1)
-      (set_goes left path i σ w (All-head (IsStart packages) (sets path i) ss all) good)
-      (λ done σ1 w1 grown1 h. steps_go left ss σ1 w1 (All-tail (IsStart packages) (sets path i) ss all) h)
+      sound_then σ Starting Starting (start_step (call_at packages left) (sets path i) w) (λ done w1. run_steps (call_at packages left) ss w1)
+      (set_goes left path i σ w (All-head (IsWellTypedStart packages) (sets path i) ss all) good)
+      (λ done σ1 w1 grown1 h. steps_go left ss σ1 w1 (All-tail (IsWellTypedStart packages) (sets path i) ss all) h)
   steps_go left (calls s ∷ ss) σ w all good =
-      sound_then σ Starting Starting (step (call_at packages left) (calls s) w) (λ done w1. step_all (call_at packages left) ss w1)
-      (sound_then σ (Answer []) Starting (call_at packages left s [] w) (λ results w1. Gives tt w1) ((calls_answer left).each s [] [] [] σ w (All-head (IsStart packages) (calls s) ss all) tt good)
+      sound_then σ Starting Starting (start_step (call_at packages left) (calls s) w) (λ done w1. run_steps (call_at packages left) ss w1)
+      (sound_then σ (Answer []) Starting (call_at packages left s [] w) (λ results w1. Gives tt w1) ((calls_answer left).each s [] [] [] σ w (All-head (IsWellTypedStart packages) (calls s) ss all) tt good)
       (λ rs σ1 w1 grown1 h. (σ1, grows_not σ1, h.1)))
-      (λ done σ1 w1 grown1 h. steps_go left ss σ1 w1 (All-tail (IsStart packages) (calls s) ss all) h)
+      (λ done σ1 w1 grown1 h. steps_go left ss σ1 w1 (All-tail (IsWellTypedStart packages) (calls s) ss all) h)
 
   zeros_first : (packages : List Package) → All (λ (x : Stored). x.value ≡ zero_of x.of) (flat_map first_variables packages)
   zeros_first [] = All-nil (λ (x : Stored). x.value ≡ zero_of x.of)
@@ -179,10 +184,10 @@ module _ (packages : List Package) (typed : IsWellTyped packages) where
   }
 
   -- nothing stands there yet but array 0
-  runs : (ticks : ℕ) → Sound [] Starting (run packages ticks)
-  runs ticks = steps_go (most_open (edition_of (last_package packages))) (start_steps packages) [] (first_world packages ticks) typed.start (first_stores, (refl, tt))
+  runs : (ticks : ℕ) → Sound [] Starting (run_program packages ticks)
+  runs ticks = steps_go (most_open (program_edition (last_package packages))) (start_steps packages) [] (first_world packages ticks) typed.start (first_stores, (refl, tt))
 
-  pub never_stuck : (ticks : ℕ) → run packages ticks ≢ Stuck
+  pub never_stuck : (ticks : ℕ) → run_program packages ticks ≢ Stuck
   never_stuck ticks e = subst (Sound [] Starting) e (runs ticks)
 
   over : (o : Outcome ⊤) → Sound [] Starting o → (ending : Ending) × (output : List ℕ) × IsOver o ending output
@@ -192,4 +197,4 @@ module _ (packages : List Package) (typed : IsWellTyped packages) where
 
   -- for any ticks it ends in a way, and has an output
   pub means : (ticks : ℕ) → IsProgram packages → (ending : Ending) × (output : List ℕ) × SourceMeaning packages ticks ending output
-  means ticks program = (let r = over (run packages ticks) (runs ticks) in (r.0, r.1, (program, r.2)))
+  means ticks program = (let r = over (run_program packages ticks) (runs ticks) in (r.0, r.1, (program, r.2)))

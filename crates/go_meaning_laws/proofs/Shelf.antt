@@ -1,11 +1,11 @@
 -- The arrays that slices are parts of stand on a shelf: for each, which type its elements have and how many there are. Values whose slices are parts of them.
-use Rattle.std.proofs.Common.{◌≡◌, ℕ, zero, suc, ◌+◌, ◌≤◌, Bool, true, false, List, [], ◌∷◌, ◌++◌, take, drop, replicate, Option, Some, None, refl, sym, ap, ◌∙◌, append_assoc, append-nil, arith}
+use Rattle.std.proofs.Common.{◌≡◌, ℕ, zero, suc, ◌+◌, ◌≤◌, List, [], ◌∷◌, ◌++◌, take, drop, replicate, Some, refl, sym, ap, ◌∙◌, append_assoc, append-nil}
 use Rattle.std.specs.Prelude.{slice_get, ⊤}
 use Rattle.go_types.specs.Types.{Type', basic, array, slice, struct, named, Fields, no_fields, field}
 use Rattle.go_types.specs.Relations.{underlying}
 use Rattle.go_code.specs.declared.cell.Cell.TheVariants.{Int, Bool as Truth, Text, Slice}
 use Rattle.go_code.specs.Rows.{most_room}
-use Rattle.go_meaning.specs.Values.{Value, single, parts, pack, unpack, zero_of, zeros_of}
+use Rattle.go_meaning.specs.Values.{Value, single, parts, pack_values, unpack, zero_of, zeros_of}
 
 -- it says this of each behind array 0
 abbrev pub Shelf : Type 0
@@ -119,7 +119,7 @@ mutual
 
 -- ---- zero values
 
-copies_rooted : (P : Value → Type 0) (v : Value) (n : ℕ) → P v → Each P (unpack (pack (replicate n v)))
+copies_rooted : (P : Value → Type 0) (v : Value) (n : ℕ) → P v → Each P (unpack (pack_values (replicate n v)))
 copies_rooted P v zero h = tt
 copies_rooted P v (suc n) h = (h, copies_rooted P v n h)
 

@@ -1,18 +1,17 @@
 -- Slices that are made or appended to are parts of arrays on the shelf, which grows by one where an array is new.
-use Rattle.std.proofs.Common.{◌≡◌, ℕ, zero, suc, ◌+◌, ◌-◌, ◌≤◌, Bool, true, false, nat_le, List, [], ◌∷◌, ◌++◌, length, take, drop, replicate, Option, Some, ℤ, refl, sym, subst, arith, length-append, length-take, length-drop, if◌then◌else◌}
+use Rattle.std.proofs.Common.{◌≡◌, ℕ, zero, suc, ◌+◌, ◌-◌, ◌≤◌, Bool, true, false, nat_le, List, [], ◌∷◌, ◌++◌, length, take, drop, replicate, Option, refl, sym, subst, arith, length-append, length-take, length-drop, if◌then◌else◌}
 use Rattle.std.proofs.lemmas.List.{length-replicate}
 use Rattle.std.specs.Prelude.{slice_set}
-use Rattle.std.specs.List.{list_all}
 use Rattle.std.proofs.lemmas.Bool.{leb-true}
 use Rattle.go_types.specs.Types.{Type', basic, array, slice, struct, named}
 use Rattle.go_types.specs.Relations.{underlying}
 use Rattle.go_types.specs.Sizes.{cells}
 use Rattle.go_code.specs.declared.cell.Cell.TheVariants.{Int, Bool as Truth, Text, Slice}
 use Rattle.go_code.specs.Operators as operators
-use Rattle.go_code.specs.Rows.{row_of, has_room, asked, grown}
+use Rattle.go_code.specs.Rows.{row_of, has_room, make_sizes, grown}
 use Rattle.go_typed.specs.Trees.{Symbol}
-use Rattle.go_meaning.specs.Values.{Value, single, parts, is_of, zero_of}
-use Rattle.go_meaning.specs.Meaning.{World, Outcome, Gives, Stuck, and_then, changed, array_of, overwritten, with_array, new_array, made, appended}
+use Rattle.go_meaning.specs.Values.{Value, single, parts, zero_of}
+use Rattle.go_meaning.specs.Meaning.{ProgramState, Outcome, Gives, Stuck, and_then, or_panic, array_of, overwritten, with_array, new_array, made, appended}
 use Rattle.go_meaning_laws.specs.WellTyped.{is_slice, IsWhole}
 use Rattle.go_meaning_laws.proofs.Shelf.{Shelf, grows_not, grows_one, Lies, Each, each_append, each_take, each_drop, each_copy}
 use Rattle.go_meaning_laws.proofs.Values.{Of, zero_is}
@@ -45,28 +44,28 @@ lies_longer σ u zero start n c k l h = (h.0, omega (arith, l, h.2), h.2)
 lies_longer σ u (suc row) start n c k l h = (h.0, h.1, l, h.3, h.4)
 
 module _ (types : Symbol → Option Type') where
-  new_is : (u : Type') (n m : ℕ) (all : List Value) (σ : Shelf) (w : World) → n ≤ m → has_room (cells u) m ≡ true → length all ≡ m → Each (Of σ u) all → Keeps types σ w → Sound σ (Valued types (slice u)) (new_array all n m w)
+  new_is : (u : Type') (n m : ℕ) (all : List Value) (σ : Shelf) (w : ProgramState) → n ≤ m → has_room (cells u) m ≡ true → length all ≡ m → Each (Of σ u) all → Keeps types σ w → Sound σ (Valued types (slice u)) (new_array all n m w)
   new_is u n m all σ w l room long each good =
       (σ ++ (u, m) ∷ [], grows_one σ (u, m), ((refl, refl, lies_new σ u n m w.arrays good.1 l room), (stores_grow (grows_one σ (u, m)) good.0, stands_new σ u m all w.arrays good.1 long each room)))
 
-  pub made_is : (u i j : Type') (x y : Value) (σ : Shelf) (w : World) → IsWhole u → IsNumber i x → IsNumber j y → Keeps types σ w → Sound σ (Valued types (slice u)) (made u x y w)
+  pub made_is : (u i j : Type') (x y : Value) (σ : Shelf) (w : ProgramState) → IsWhole u → IsNumber i x → IsNumber j y → Keeps types σ w → Sound σ (Valued types (slice u)) (made u x y w)
   made_is u i j x y σ w whole (number ki a ei ea fa) (number kj b ej eb fb) good =
       subst (λ v. Sound σ (Valued types (slice u)) (made u v y w)) (sym ea) (subst (λ v. Sound σ (Valued types (slice u)) (made u (single (Int a)) v w)) (sym eb)
-      (sound_then σ (λ (s : ℕ × ℕ) σ1 w1. Roomy (cells u) s × Keeps types σ1 w1) (Valued types (slice u)) (changed (asked (cells u) (Int a) (Int b)) w) (λ sizes. new_array (replicate sizes.1 (zero_of u)) sizes.0 sizes.1)
-      (sound_changed types (λ s σ1. Roomy (cells u) s) (asked (cells u) (Int a) (Int b)) σ w good (asked_fine (cells u) a b))
+      (sound_then σ (λ (s : ℕ × ℕ) σ1 w1. Roomy (cells u) s × Keeps types σ1 w1) (Valued types (slice u)) (or_panic (make_sizes (cells u) (Int a) (Int b)) w) (λ sizes. new_array (replicate sizes.1 (zero_of u)) sizes.0 sizes.1)
+      (sound_changed types (λ s σ1. Roomy (cells u) s) (make_sizes (cells u) (Int a) (Int b)) σ w good (asked_fine (cells u) a b))
       (λ s σ1 w1 grown1 h. new_is u s.0 s.1 (replicate s.1 (zero_of u)) σ1 w1 (h.0).0 (h.0).1 (length-replicate s.1 (zero_of u)) (each_copy (Of σ1 u) s.1 (zero_of u) (zero_is σ1 u whole)) h.1)))
 
   -- in place, or in a new array
-  fitted : (u : Type') (row start n c : ℕ) (vs all : List Value) (σ : Shelf) (w : World) → IsWhole u → Lies σ u row start n c → all ≡ row_of w.arrays row → Each (Of σ u) all → n ≤ c → start + c ≤ length all → Each (Of σ u) vs → Keeps types σ w → (b : Bool) → nat_le (n + length vs) c ≡ b
+  fitted : (u : Type') (row start n c : ℕ) (vs all : List Value) (σ : Shelf) (w : ProgramState) → IsWhole u → Lies σ u row start n c → all ≡ row_of w.arrays row → Each (Of σ u) all → n ≤ c → start + c ≤ length all → Each (Of σ u) vs → Keeps types σ w → (b : Bool) → nat_le (n + length vs) c ≡ b
       → Sound σ (Valued types (slice u)) (if b then Gives (single (Slice row start (n + length vs) c)) (with_array w row (overwritten all (start + n) vs))
-      else and_then (changed (grown (cells u) (n + length vs) c) w) (λ room. new_array (take n (drop start all) ++ vs ++ replicate (room - (n + length vs)) (zero_of u)) (n + length vs) room))
+      else and_then (or_panic (grown (cells u) (n + length vs) c) w) (λ room. new_array (take n (drop start all) ++ vs ++ replicate (room - (n + length vs)) (zero_of u)) (n + length vs) room))
   fitted u row start n c vs all σ w whole lies same typed less within each good true e =
       let enough : n + length vs ≤ c = leb-true (n + length vs) c e in
       let stands = stands_set σ u row start n c (start + n) vs w.arrays good.1 lies (omega arith) (omega (arith, enough)) each in
       (σ, grows_not σ, ((refl, refl, lies_longer σ u row start n c (n + length vs) enough lies), (good.0, subst (λ l. Stands σ (slice_set w.arrays row (overwritten l (start + n) vs))) (sym same) stands)))
   fitted u row start n c vs all σ w whole lies same typed less within each good false e =
       let count : ℕ = n + length vs in
-      sound_then σ (λ (room : ℕ) σ1 w1. ((count ≤ room) × (has_room (cells u) room ≡ true) × Each (Of σ1 u) all × Each (Of σ1 u) vs) × Keeps types σ1 w1) (Valued types (slice u)) (changed (grown (cells u) count c) w)
+      sound_then σ (λ (room : ℕ) σ1 w1. ((count ≤ room) × (has_room (cells u) room ≡ true) × Each (Of σ1 u) all × Each (Of σ1 u) vs) × Keeps types σ1 w1) (Valued types (slice u)) (or_panic (grown (cells u) count c) w)
       (λ room. new_array (take n (drop start all) ++ vs ++ replicate (room - count) (zero_of u)) count room)
       (sound_changed types (λ room σ1. (count ≤ room) × (has_room (cells u) room ≡ true) × Each (Of σ1 u) all × Each (Of σ1 u) vs) (grown (cells u) count c) σ w good (with_more (grown (cells u) count c) (grown_fine (cells u) count c)))
       (λ room σ1 w1 grown1 h.
@@ -83,13 +82,13 @@ module _ (types : Symbol → Option Type') where
       with_more (operators.Panics kind) k = tt
       with_more operators.Senseless k = absurd k
 
-  pub appended_is : (u : Type') (v : Value) (vs : List Value) (σ : Shelf) (w : World) → IsWhole u → Of σ (slice u) v → Each (Of σ u) vs → Keeps types σ w → Sound σ (Valued types (slice u)) (appended u v vs w)
+  pub appended_is : (u : Type') (v : Value) (vs : List Value) (σ : Shelf) (w : ProgramState) → IsWhole u → Of σ (slice u) v → Each (Of σ u) vs → Keeps types σ w → Sound σ (Valued types (slice u)) (appended u v vs w)
   appended_is u (single (Slice row start n c)) vs σ w whole h each good =
       let f = array_found σ u row start n c w w.arrays refl good.1 h.2 in
       let all : List Value = row_of w.arrays row in
-      let next : List Value → World → Outcome Value = λ all1 w1.
+      let next : List Value → ProgramState → Outcome Value = λ all1 w1.
       if nat_le (n + length vs) c then Gives (single (Slice row start (n + length vs) c)) (with_array w1 row (overwritten all1 (start + n) vs))
-      else and_then (changed (grown (cells u) (n + length vs) c) w1) (λ room. new_array (take n (drop start all1) ++ vs ++ replicate (room - (n + length vs)) (zero_of u)) (n + length vs) room) in
+      else and_then (or_panic (grown (cells u) (n + length vs) c) w1) (λ room. new_array (take n (drop start all1) ++ vs ++ replicate (room - (n + length vs)) (zero_of u)) (n + length vs) room) in
       let body : Sound σ (Valued types (slice u)) (next all w) = fitted u row start n c vs all σ w whole h.2 refl f.1 f.2 f.3 each good (nat_le (n + length vs) c) refl in
       subst (λ b. Sound σ (Valued types (slice u)) (if b then and_then (array_of u row start n c w) next else Stuck)) (sym (each_typed σ u vs each))
       (subst (λ (o : Outcome (List Value)). Sound σ (Valued types (slice u)) (and_then o next)) (sym f.0) body)

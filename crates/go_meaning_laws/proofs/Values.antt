@@ -14,7 +14,7 @@ use Rattle.go_types.specs.Sizes.{cells, cells_of}
 use Rattle.go_const.specs.declared.constant.Const.{Const}
 use Rattle.go_const.specs.declared.constant.Const.TheVariants as consts
 use Rattle.go_meaning.specs.Choices.{cell_of}
-use Rattle.go_meaning.specs.Values.{Value, single, parts, Values, no_values, some_values, pack, unpack, flat, flat_all, is_of, is_basic, are_of, are_of_fields, zero_of, zero_cell, zeros_of}
+use Rattle.go_meaning.specs.Values.{Value, single, parts, Values, no_values, some_values, pack_values, unpack, flat, flat_all, is_of, is_basic, are_of, are_of_fields, zero_of, zero_cell, zeros_of}
 use Rattle.go_meaning_laws.specs.WellTyped.{IsConstant, IsWhole, AreWhole, AllWhole, is_typed, Suits, AllSuit, is_sound_cell}
 use Rattle.go_meaning_laws.proofs.Shelf.{Shelf, Grows, Each, each_map, Rooted, rooted_under, under_rooted, rooted_more, zero_rooted}
 
@@ -91,11 +91,11 @@ zero_sound (basics.Untyped kinds.String) = refl
 zero_sound (basics.Untyped kinds.Int) = refl
 zero_sound (basics.Untyped kinds.Rune) = refl
 
-copies : (n : ℕ) (t : Type') (v : Value) → Typed t v → (length (unpack (pack (replicate n v))) ≡ n) × (list_all (is_of t) (unpack (pack (replicate n v))) ≡ true) × AllProper (pack (replicate n v))
+copies : (n : ℕ) (t : Type') (v : Value) → Typed t v → (length (unpack (pack_values (replicate n v))) ≡ n) × (list_all (is_of t) (unpack (pack_values (replicate n v))) ≡ true) × AllProper (pack_values (replicate n v))
 copies zero t v h = (refl, refl, tt)
 copies (suc n) t v h =
     let r = copies n t v h in
-    (ap suc r.0, true_both (is_of t v) (list_all (is_of t) (unpack (pack (replicate n v)))) h.0 r.1, (h.1, r.2))
+    (ap suc r.0, true_both (is_of t v) (list_all (is_of t) (unpack (pack_values (replicate n v)))) h.0 r.1, (h.1, r.2))
 
 mutual
   zero_typed : (t : Type') → IsWhole t → Typed t (zero_of t)
@@ -114,15 +114,15 @@ mutual
 
 -- ---- how many cells a value has
 
-elements_long : (size : ℕ) (vs : List Value) (is : Value → Bool) → ((v : Value) → is v ≡ true → length (flat v) ≡ size) → list_all is vs ≡ true → length (flat_all (pack vs)) ≡ length vs * size
+elements_long : (size : ℕ) (vs : List Value) (is : Value → Bool) → ((v : Value) → is v ≡ true → length (flat v) ≡ size) → list_all is vs ≡ true → length (flat_all (pack_values vs)) ≡ length vs * size
 elements_long size [] is long e = omega arith
 elements_long size (v ∷ vs) is long e =
     let h = both_true (is v) (list_all is vs) e in
     let rest = elements_long size vs is long h.1 in
     let one = long v h.0 in
-    omega (arith, length-append (flat v) (flat_all (pack vs)), rest, one)
+    omega (arith, length-append (flat v) (flat_all (pack_values vs)), rest, one)
 
-packed : (vs : Values) → pack (unpack vs) ≡ vs
+packed : (vs : Values) → pack_values (unpack vs) ≡ vs
 packed no_values = refl
 packed (some_values v vs) = ap (some_values v) (packed vs)
 
@@ -141,7 +141,7 @@ mutual
   flat_long (struct fs) (parts vs) e = ap (λ l. length (flat_all l)) (sym (packed vs)) ∙ fields_long fs (unpack vs) e
   flat_long (named path name t) v e = flat_long t v e
 
-  fields_long : (fs : Fields) (vs : List Value) → are_of_fields fs vs ≡ true → length (flat_all (pack vs)) ≡ cells_of fs
+  fields_long : (fs : Fields) (vs : List Value) → are_of_fields fs vs ≡ true → length (flat_all (pack_values vs)) ≡ cells_of fs
   fields_long no_fields [] e = refl
   fields_long no_fields (v ∷ vs) e = cc
   fields_long (field p x t fs) [] e = cc
@@ -149,7 +149,7 @@ mutual
       let h = both_true (is_of t v) (are_of_fields fs vs) e in
       let one = flat_long t v h.0 in
       let rest = fields_long fs vs h.1 in
-      omega (arith, length-append (flat v) (flat_all (pack vs)), one, rest)
+      omega (arith, length-append (flat v) (flat_all (pack_values vs)), one, rest)
 
 -- ---- values whose slices are parts of arrays on a shelf
 

@@ -9,8 +9,8 @@ use Rattle.go_code.specs.Operators.{Operated}
 use Rattle.go_typed.specs.Trees.{Symbol}
 use Rattle.go_meaning.specs.Values.{Value, single, is_of, or_else}
 use Rattle.go_symbol.specs.Symbols.{same_symbol}
-use Rattle.go_meaning.specs.Meaning.{Stored, World, Outcome, Gives, Ends, Stuck, Local, Locals, and_then, with_cell, given, changed, local_value, global_value, with_local, with_global, all_put, defined}
-use Rattle.go_meaning_laws.specs.WellTyped.{has, AreGiven, AreNew, numbers}
+use Rattle.go_meaning.specs.Meaning.{Stored, ProgramState, Outcome, Gives, Ends, Stuck, Local, Locals, and_then, with_cell, typed_or_panic, or_panic, local_value, global_value, with_local, with_global, all_put, defined}
+use Rattle.go_meaning_laws.specs.WellTyped.{has, AreGiven, AreNew, known_numbers}
 use Rattle.go_meaning_laws.proofs.Shelf.{Shelf, Grows, grows_not, grows_then}
 use Rattle.go_meaning_laws.proofs.Values.{Of, AllOf, suits, of_grow}
 use Rattle.go_meaning_laws.proofs.Parts.{Fine}
@@ -19,34 +19,34 @@ use Rattle.go_meaning_laws.proofs.Arrays.{Stands}
 -- ---- outcomes
 
 -- what is given is so, with a shelf that has grown, or has not
-abbrev pub Grown : {A : Type 0} → Shelf → (A → Shelf → World → Type 0) → A → World → Type 0
+abbrev pub Grown : {A : Type 0} → Shelf → (A → Shelf → ProgramState → Type 0) → A → ProgramState → Type 0
 Grown σ P a w = (later : Shelf) × Grows σ later × P a later w
 
 -- it isn't stuck, and what it gives is so
-abbrev pub Sound : {A : Type 0} → Shelf → (A → Shelf → World → Type 0) → Outcome A → Type 0
+abbrev pub Sound : {A : Type 0} → Shelf → (A → Shelf → ProgramState → Type 0) → Outcome A → Type 0
 Sound σ P (Gives a w) = Grown σ P a w
 Sound σ P (Ends ending output) = Unit {0}
 Sound σ P Stuck = ⊥
 
 -- where the shelf has grown before, it has grown after all
-pub sound_later : {A : Type 0} (σ later : Shelf) (P : A → Shelf → World → Type 0) (o : Outcome A) → Grows σ later → Sound later P o → Sound σ P o
+pub sound_later : {A : Type 0} (σ later : Shelf) (P : A → Shelf → ProgramState → Type 0) (o : Outcome A) → Grows σ later → Sound later P o → Sound σ P o
 sound_later σ later P (Gives a w) g h = (h.0, grows_then σ later h.0 g h.1, h.2)
 sound_later σ later P (Ends ending output) g h = tt
 sound_later σ later P Stuck g h = absurd h
 
-pub sound_then : {A B : Type 0} (σ : Shelf) (P : A → Shelf → World → Type 0) (Q : B → Shelf → World → Type 0) (o : Outcome A) (next : A → World → Outcome B) → Sound σ P o
-    → ((a : A) (later : Shelf) (w : World) → Grows σ later → P a later w → Sound later Q (next a w)) → Sound σ Q (and_then o next)
+pub sound_then : {A B : Type 0} (σ : Shelf) (P : A → Shelf → ProgramState → Type 0) (Q : B → Shelf → ProgramState → Type 0) (o : Outcome A) (next : A → ProgramState → Outcome B) → Sound σ P o
+    → ((a : A) (later : Shelf) (w : ProgramState) → Grows σ later → P a later w → Sound later Q (next a w)) → Sound σ Q (and_then o next)
 sound_then σ P Q (Gives a w) next h k = sound_later σ h.0 Q (next a w) h.1 (k a h.0 w h.1 h.2)
 sound_then σ P Q (Ends ending output) next h k = tt
 sound_then σ P Q Stuck next h k = absurd h
 
-pub sound_map : {A : Type 0} (σ : Shelf) (P Q : A → Shelf → World → Type 0) (o : Outcome A) → ((a : A) (later : Shelf) (w : World) → Grows σ later → P a later w → Q a later w) → Sound σ P o → Sound σ Q o
+pub sound_map : {A : Type 0} (σ : Shelf) (P Q : A → Shelf → ProgramState → Type 0) (o : Outcome A) → ((a : A) (later : Shelf) (w : ProgramState) → Grows σ later → P a later w → Q a later w) → Sound σ P o → Sound σ Q o
 sound_map σ P Q (Gives a w) f h = (h.0, h.1, f a h.0 w h.1 h.2)
 sound_map σ P Q (Ends ending output) f h = tt
 sound_map σ P Q Stuck f h = absurd h
 
 -- behind a value of one cell
-pub sound_cell : {A : Type 0} (σ : Shelf) (P : A → Shelf → World → Type 0) (v : Value) (o : Outcome A) → (c : Cell) × (v ≡ single c) → Sound σ P o → Sound σ P (with_cell v o)
+pub sound_cell : {A : Type 0} (σ : Shelf) (P : A → Shelf → ProgramState → Type 0) (v : Value) (o : Outcome A) → (c : Cell) × (v ≡ single c) → Sound σ P o → Sound σ P (with_cell v o)
 sound_cell σ P v o e h = subst (λ u. Sound σ P (with_cell u o)) (sym e.1) h
 
 -- ---- package variables
@@ -56,20 +56,20 @@ pub record Stores (σ : Shelf) (types : Symbol → Option Type') (variables : Li
   pub each : (s : Symbol) (t : Type') → types s ≡ Some t → (x : Stored) × (find (λ v. same_symbol s v.symbol) variables ≡ Some x) × (x.of ≡ t) × Of σ t x.value
 
 -- so it is in the world, whose arrays stand on the shelf
-abbrev pub Keeps : (Symbol → Option Type') → Shelf → World → Type 0
+abbrev pub Keeps : (Symbol → Option Type') → Shelf → ProgramState → Type 0
 Keeps types σ w = Stores σ types w.variables × Stands σ w.arrays
 
 -- a value of that type, in such a world
-abbrev pub Valued : (Symbol → Option Type') → Type' → Value → Shelf → World → Type 0
+abbrev pub Valued : (Symbol → Option Type') → Type' → Value → Shelf → ProgramState → Type 0
 Valued types t v σ w = Of σ t v × Keeps types σ w
 
-pub sound_given : (types : Symbol → Option Type') (t : Type') (o : Operated Value) (σ : Shelf) (w : World) → Keeps types σ w → Fine (Of σ t) o → Sound σ (Valued types t) (given t o w)
+pub sound_given : (types : Symbol → Option Type') (t : Type') (o : Operated Value) (σ : Shelf) (w : ProgramState) → Keeps types σ w → Fine (Of σ t) o → Sound σ (Valued types t) (typed_or_panic t o w)
 sound_given types t (operators.Gives v) σ w good h = rw (h.0) (σ, grows_not σ, (h, good))
 sound_given types t (operators.Panics kind) σ w good h = tt
 sound_given types t operators.Senseless σ w good h = absurd h
 
 -- what is given, or a panic, by a rule
-pub sound_changed : {A : Type 0} (types : Symbol → Option Type') (P : A → Shelf → Type 0) (o : Operated A) (σ : Shelf) (w : World) → Keeps types σ w → Fine (λ a. P a σ) o → Sound σ (λ a σ1 w1. P a σ1 × Keeps types σ1 w1) (changed o w)
+pub sound_changed : {A : Type 0} (types : Symbol → Option Type') (P : A → Shelf → Type 0) (o : Operated A) (σ : Shelf) (w : ProgramState) → Keeps types σ w → Fine (λ a. P a σ) o → Sound σ (λ a σ1 w1. P a σ1 × Keeps types σ1 w1) (or_panic o w)
 sound_changed types P (operators.Gives a) σ w good h = (σ, grows_not σ, (h, good))
 sound_changed types P (operators.Panics kind) σ w good h = tt
 sound_changed types P operators.Senseless σ w good h = absurd h
@@ -152,7 +152,7 @@ pub stores_grow : {σ later : Shelf} {types : Symbol → Option Type'} {variable
 stores_grow g h = record { each = λ s t e. (let r = h.each s t e in (r.0, r.1, r.2, of_grow t (r.0).value g r.3)) }
 
 -- the variables stay, where the shelf grows and the arrays are others
-pub keeps_with : (types : Symbol → Option Type') (σ later : Shelf) (w w1 : World) → Grows σ later → w1.variables ≡ w.variables → Keeps types σ w → Stands later w1.arrays → Keeps types later w1
+pub keeps_with : (types : Symbol → Option Type') (σ later : Shelf) (w w1 : ProgramState) → Grows σ later → w1.variables ≡ w.variables → Keeps types σ w → Stands later w1.arrays → Keeps types later w1
 keeps_with types σ later w w1 g e h stands = (subst (λ vs. Stores later types vs) (sym e) (stores_grow g h.0), stands)
 
 -- ---- local variables
@@ -238,7 +238,7 @@ within_more (x ∷ xs) d n h = either_way (nat_eq n x) (has (xs ++ d) n) (within
     either_way false q e = e
 
 -- new variables get values
-pub defined_is : (σ : Shelf) (types : List Type') (d : List ℕ) (os : List (Option ℕ)) (ts : List Type') (vs : List Value) (ls : Locals) → AreNew types os ts → AllOf σ ts vs → Fits σ types d ls → (later : Locals) × (defined os vs ls ≡ Some later) × Fits σ types (numbers os ++ d) later
+pub defined_is : (σ : Shelf) (types : List Type') (d : List ℕ) (os : List (Option ℕ)) (ts : List Type') (vs : List Value) (ls : Locals) → AreNew types os ts → AllOf σ ts vs → Fits σ types d ls → (later : Locals) × (defined os vs ls ≡ Some later) × Fits σ types (known_numbers os ++ d) later
 defined_is σ types d [] [] [] ls new h fits = (ls, refl, fits)
 defined_is σ types d [] [] (v ∷ vs) ls new h fits = absurd h
 defined_is σ types d [] (t ∷ ts) vs ls new h fits = absurd new
@@ -248,7 +248,7 @@ defined_is σ types d (None ∷ os) (t ∷ ts) (v ∷ vs) ls new h fits = define
 defined_is σ types d (Some n ∷ os) (t ∷ ts) (v ∷ vs) ls new h fits =
     let r = defined_is σ types d os ts vs ls new.1 h.1 fits in
     let u = new.0 in
-    let s = local_put σ types (numbers os ++ d) r.0 n u.0 v r.2 u.1 (suits σ t u.0 v u.2 h.0) in
+    let s = local_put σ types (known_numbers os ++ d) r.0 n u.0 v r.2 u.1 (suits σ t u.0 v u.2 h.0) in
     (s.0, rw (r.1) (s.1), s.2)
 
 -- package variables get values

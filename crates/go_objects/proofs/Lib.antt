@@ -1,4 +1,4 @@
-pub mod Agreement
+mod Agreement
 pub mod Filling
 pub mod Firsts
 pub mod Groundedness
@@ -8,4 +8,4 @@ pub mod Pairs
 pub mod Signatures
 pub mod Silence
 pub mod Standing
-pub mod Written
+mod Written

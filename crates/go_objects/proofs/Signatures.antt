@@ -8,8 +8,8 @@ use Rattle.std.proofs.lemmas.Slice.Eq.{bytes_eq-Decides}
 use Rattle.go_ast.specs.Trees.{Parameter}
 use Rattle.go_types.specs.Types.{Type'}
 use Rattle.go_expr.specs.Known.{Scope}
-use Rattle.go_expr.specs.Rules.{fine, differ}
-use Rattle.go_expr.specs.Verdicts.{joined, type_verdict}
+use Rattle.go_expr.specs.Rules.{fine, are_distinct}
+use Rattle.go_expr.specs.Verdicts.{chained, type_verdict}
 use Rattle.go_objects.specs.Table.{parameters_known}
 use Rattle.go_objects.proofs.Firsts.{any_now}
 
@@ -19,17 +19,17 @@ next_of xs k x d inside is = rw (add-one, drop-cons xs k d) (ap (λ m. m ∷ dro
 
 -- ---- types
 
-pub more_known : {A : Type 0} (xs ys : List A) (rest : Option (List A)) → joined (Some xs) (joined (Some ys) rest) ≡ joined (Some (xs ++ ys)) rest
+pub more_known : {A : Type 0} (xs ys : List A) (rest : Option (List A)) → chained (Some xs) (chained (Some ys) rest) ≡ chained (Some (xs ++ ys)) rest
 more_known xs ys None = refl
 more_known xs ys (Some zs) = ap Some (sym (append_assoc xs ys zs))
 
-pub parameter_more : (s : Scope) (old new : List Type') (q : Parameter) (left rest : List Parameter) (t : Type') (all : Option (List Type')) → joined (Some old) (parameters_known s left) ≡ all → left ≡ q ∷ rest →
-    fine (type_verdict s q.type) ≡ Some t → new ≡ old ++ map (λ n. t) q.names → joined (Some new) (parameters_known s rest) ≡ all
+pub parameter_more : (s : Scope) (old new : List Type') (q : Parameter) (left rest : List Parameter) (t : Type') (all : Option (List Type')) → chained (Some old) (parameters_known s left) ≡ all → left ≡ q ∷ rest →
+    fine (type_verdict s q.type) ≡ Some t → new ≡ old ++ map (λ n. t) q.names → chained (Some new) (parameters_known s rest) ≡ all
 parameter_more s old new q left rest t all before is known grown =
-    ap (λ (l : List Type'). joined (Some l) (parameters_known s rest)) grown
+    ap (λ (l : List Type'). chained (Some l) (parameters_known s rest)) grown
     ∙ sym (more_known old (map (λ n. t) q.names) (parameters_known s rest))
-    ∙ ap (λ (o : Option Type'). joined (Some old) (joined (option_map (λ t. map (λ n. t) q.names) o) (parameters_known s rest))) (sym known)
-    ∙ ap (λ (l : List Parameter). joined (Some old) (parameters_known s l)) (sym is)
+    ∙ ap (λ (o : Option Type'). chained (Some old) (chained (option_map (λ t. map (λ n. t) q.names) o) (parameters_known s rest))) (sym known)
+    ∙ ap (λ (l : List Parameter). chained (Some old) (parameters_known s l)) (sym is)
     ∙ before
 
 -- ---- names
@@ -57,7 +57,7 @@ turned_false : (x y : List ℕ) → bytes_eq x y ≡ false → bytes_eq y x ≡ 
 turned_false x y f = elim (cases_Bool (bytes_eq y x)) [ inl t ↦ (let no : true ≡ false = sym (turned y x t) ∙ f in cc (no)) | inr g ↦ g ]
 
 -- a name that stands before
-pub doubled_name : (xs ys : List (List ℕ)) (x : List ℕ) → list_any (bytes_eq x) xs ≡ true → differ (xs ++ x ∷ ys) ≡ false
+pub doubled_name : (xs ys : List (List ℕ)) (x : List ℕ) → list_any (bytes_eq x) xs ≡ true → are_distinct (xs ++ x ∷ ys) ≡ false
 doubled_name [] ys x h = cc
 doubled_name (y ∷ xs) ys x h = elim (cases_Bool (bytes_eq x y)) [
   | inl t ↦ rw (any_here (bytes_eq y) xs ys x (turned x y t)) refl
@@ -69,10 +69,10 @@ not_any true h = cc
 not_any false h = refl
 
 -- a name that doesn't
-pub new_name : (xs : List (List ℕ)) (x : List ℕ) → differ xs ≡ true → list_any (bytes_eq x) xs ≡ false → differ (xs ++ x ∷ []) ≡ true
+pub new_name : (xs : List (List ℕ)) (x : List ℕ) → are_distinct xs ≡ true → list_any (bytes_eq x) xs ≡ false → are_distinct (xs ++ x ∷ []) ≡ true
 new_name [] x d n = refl
 new_name (y ∷ xs) x d n =
-    let parts = and_true (not (list_any (bytes_eq y) xs)) (differ xs) d in
+    let parts = and_true (not (list_any (bytes_eq y) xs)) (are_distinct xs) d in
     elim (cases_Bool (bytes_eq x y)) [
       | inl t ↦ (let no : true ≡ false = rw t at n in cc (no))
       | inr f ↦ rw (none_more (bytes_eq y) xs x (not_any (list_any (bytes_eq y) xs) parts.0) (turned_false x y f)) (new_name xs x parts.1 (rw f at n))
@@ -83,7 +83,7 @@ now keys = map (λ k. k.now) keys
 
 -- names of which none stands twice, and others behind them
 abbrev pub Differing : List (Bor (List ℕ)) → List (List ℕ) → List (List ℕ) → Type 0
-Differing keys rest all = (now keys ++ rest ≡ all) × (differ (now keys) ≡ true)
+Differing keys rest all = (now keys ++ rest ≡ all) × (are_distinct (now keys) ≡ true)
 
 pub differing_more : (keys new : List (Bor (List ℕ))) (k : Bor (List ℕ)) (left rest all : List (List ℕ)) → Differing keys left all → left ≡ k.now ∷ rest →
     list_any (λ (y : Bor (List ℕ)). bytes_eq k.now y.now) keys ≡ false → new ≡ cond (list_any (λ (y : Bor (List ℕ)). bytes_eq k.now y.now) keys) keys (keys ++ k ∷ []) → Differing new rest all
@@ -91,10 +91,10 @@ differing_more keys new k left rest all before is fresh grown =
     let keys_are : new ≡ keys ++ k ∷ [] = grown ∙ ap (λ b. cond b keys (keys ++ k ∷ [])) fresh in
     let names_are : now new ≡ now keys ++ k.now ∷ [] = ap now keys_are ∙ map-append (λ (y : Bor (List ℕ)). y.now) keys (k ∷ []) in (
       ap (λ (l : List (List ℕ)). l ++ rest) names_are ∙ append_assoc (now keys) (k.now ∷ []) rest ∙ ap (λ (l : List (List ℕ)). now keys ++ l) (sym is) ∙ before.0,
-      ap differ names_are ∙ new_name (now keys) k.now before.1 (sym (any_now keys k.now) ∙ fresh),
+      ap are_distinct names_are ∙ new_name (now keys) k.now before.1 (sym (any_now keys k.now) ∙ fresh),
     )
 
 pub differing_not : (keys : List (Bor (List ℕ))) (k : Bor (List ℕ)) (left rest all : List (List ℕ)) → Differing keys left all → left ≡ k.now ∷ rest →
-    list_any (λ (y : Bor (List ℕ)). bytes_eq k.now y.now) keys ≡ true → false ≡ differ all
+    list_any (λ (y : Bor (List ℕ)). bytes_eq k.now y.now) keys ≡ true → false ≡ are_distinct all
 differing_not keys k left rest all before is there =
-    sym (doubled_name (now keys) rest k.now (sym (any_now keys k.now) ∙ there)) ∙ ap (λ (l : List (List ℕ)). differ (now keys ++ l)) (sym is) ∙ ap differ before.0
+    sym (doubled_name (now keys) rest k.now (sym (any_now keys k.now) ∙ there)) ∙ ap (λ (l : List (List ℕ)). are_distinct (now keys ++ l)) (sym is) ∙ ap are_distinct before.0

@@ -5,7 +5,7 @@ use Rattle.std.specs.Global.{Global}
 use Rattle.indexmap.specs.IndexMap.{set_value_at}
 use Rattle.go_expr.specs.Known as known
 use Rattle.go_expr.specs.declared.known.Declared.{Declared}
-use Rattle.go_expr.specs.Seen.{declared_of}
+use Rattle.go_expr.specs.Views.{declared_of}
 
 abbrev pub entry_of : String Global × Option Declared → List ℕ × Option known.Declared
 entry_of e = (string_bytes e.0, option_map declared_of e.1)

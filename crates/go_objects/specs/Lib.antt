@@ -1,5 +1,5 @@
 pub mod Numbers
 pub mod Objects
 pub mod Packages
-pub mod Seen
 pub mod Table
+pub mod Views

@@ -6,7 +6,7 @@ ghost use Rattle.go_ast.specs.Trees as trees;
 ghost use Rattle.go_ast.specs.Views.{type_of, expr_of, exprs_in, const_of, var_of, type_spec_of, function_of, top_of, file_of};
 ghost use Rattle.go_scope.specs.Specifications as specifications;
 ghost use Rattle.go_objects.specs.Objects.{begin_of, unpaired, constants_of, in_group, typed_object, result_objects, uncounted, variables_of, type_object, objects_in, objects_from};
-ghost use Rattle.go_objects.specs.Seen.{object_of, spec_of};
+ghost use Rattle.go_objects.specs.Views.{object_view, spec_of};
 
 use crate::object::{Form, Object};
 use go_ast::declaration::{ConstSpec, Decl, TypeSpec, VarSpec};
@@ -19,7 +19,7 @@ use std::alloc::{AllocError, Global};
 /// What some files declare, under names that may be blank or doubled. An `Err` only where memory ran
 /// out.
 pub fn all_objects<'a>(alloc: Global, files: &[&'a File]) -> Result<Vec<Object<'a>>, AllocError>
-    ensures { IfOk result (λ found. map object_of found.items ≡ objects_from 0 (map (λ f. file_of f.now) files.now)) }
+    ensures { IfOk result (λ found. map object_view found.items ≡ objects_from 0 (map (λ f. file_of f.now) files.now)) }
 {
     let mut found = Vec::new(alloc);
     for (number, file) in files.iter().enumerate() {
@@ -33,7 +33,7 @@ fn add_file<'a>(
     file: &'a File,
     found: &mut Vec<Object<'a>>,
 ) -> Result<(), AllocError>
-    ensures { OnOk result (map object_of found.new.items ≡ map object_of found.old.items ++ flat_map (objects_in number) (file_of file.now).declarations) }
+    ensures { OnOk result (map object_view found.new.items ≡ map object_view found.old.items ++ flat_map (objects_in number) (file_of file.now).declarations) }
 {
     for top in &file.declarations {
         add_objects(number, top, found)?;
@@ -46,7 +46,7 @@ fn add_objects<'a>(
     top: &'a TopLevel,
     found: &mut Vec<Object<'a>>,
 ) -> Result<(), AllocError>
-    ensures { OnOk result (map object_of found.new.items ≡ map object_of found.old.items ++ objects_in file (top_of top.now)) }
+    ensures { OnOk result (map object_view found.new.items ≡ map object_view found.old.items ++ objects_in file (top_of top.now)) }
 {
     match top {
         TopLevel::Declared(Decl::Constants(_, specs)) => add_group(file, specs, found),
@@ -89,8 +89,8 @@ fn add_group<'a>(
     specs: &'a [ConstSpec],
     found: &mut Vec<Object<'a>>,
 ) -> Result<(), AllocError>
-    ensures { OnOk result (map object_of found.new.items
-        ≡ map object_of found.old.items ++ in_group file 0 (record { names = []; type = None; values = no_exprs }) (map const_of specs.now)) }
+    ensures { OnOk result (map object_view found.new.items
+        ≡ map object_view found.old.items ++ in_group file 0 (record { names = []; type = None; values = no_exprs }) (map const_of specs.now)) }
 {
     let mut before = Spec {
         names: &[],
@@ -111,7 +111,7 @@ pub fn constants_of<'a>(
     iota: u64,
     spec: Spec<'a>,
 ) -> Result<Vec<Object<'a>>, AllocError>
-    ensures { IfOk result (λ found. map object_of found.items ≡ constants_of file iota (spec_of spec.entry)) }
+    ensures { IfOk result (λ found. map object_view found.items ≡ constants_of file iota (spec_of spec.entry)) }
 {
     let mut found = Vec::new(alloc);
     add_constants(file, iota, spec, &mut found)?;
@@ -124,7 +124,7 @@ fn add_constants<'a>(
     spec: Spec<'a>,
     found: &mut Vec<Object<'a>>,
 ) -> Result<(), AllocError>
-    ensures { OnOk result (map object_of found.new.items ≡ map object_of found.old.items ++ constants_of file iota (spec_of spec.entry)) }
+    ensures { OnOk result (map object_view found.new.items ≡ map object_view found.old.items ++ constants_of file iota (spec_of spec.entry)) }
 {
     if spec.names.len() == spec.values.len() {
         add_paired_constants(file, iota, spec, found)
@@ -140,7 +140,7 @@ fn add_paired_constants<'a>(
     found: &mut Vec<Object<'a>>,
 ) -> Result<(), AllocError>
     requires { length spec.names.now ≡ length spec.values.now }
-    ensures { OnOk result (map object_of found.new.items ≡ map object_of found.old.items ++ constants_of file iota (spec_of spec.entry)) }
+    ensures { OnOk result (map object_view found.new.items ≡ map object_view found.old.items ++ constants_of file iota (spec_of spec.entry)) }
 {
     for (name, value) in spec.names.iter().zip(spec.values) {
         found.push(Object {
@@ -173,8 +173,8 @@ fn add_unpaired<'a>(
     spec: Spec<'a>,
     found: &mut Vec<Object<'a>>,
 ) -> Result<(), AllocError>
-    ensures { OnOk result (map object_of found.new.items
-        ≡ map object_of found.old.items ++ unpaired file (spec_of spec.entry).type (spec_of spec.entry).values (spec_of spec.entry).names) }
+    ensures { OnOk result (map object_view found.new.items
+        ≡ map object_view found.old.items ++ unpaired file (spec_of spec.entry).type (spec_of spec.entry).values (spec_of spec.entry).names) }
 {
     for name in spec.names {
         found.push(Object {
@@ -193,7 +193,7 @@ pub fn variables_of<'a>(
     file: usize,
     spec: &'a VarSpec,
 ) -> Result<Vec<Object<'a>>, AllocError>
-    ensures { IfOk result (λ found. map object_of found.items ≡ variables_of file (var_of spec.now)) }
+    ensures { IfOk result (λ found. map object_view found.items ≡ variables_of file (var_of spec.now)) }
 {
     let mut found = Vec::new(alloc);
     add_variables(file, spec, &mut found)?;
@@ -207,7 +207,7 @@ fn add_variables<'a>(
     spec: &'a VarSpec,
     found: &mut Vec<Object<'a>>,
 ) -> Result<(), AllocError>
-    ensures { OnOk result (map object_of found.new.items ≡ map object_of found.old.items ++ variables_of file (var_of spec.now)) }
+    ensures { OnOk result (map object_view found.new.items ≡ map object_view found.old.items ++ variables_of file (var_of spec.now)) }
 {
     let names = spec.names.as_slice();
     let values = spec.values.as_slice();
@@ -223,7 +223,7 @@ fn add_typed_variables<'a>(
     type_expr: &'a TypeExpr,
     found: &mut Vec<Object<'a>>,
 ) -> Result<(), AllocError>
-    ensures { OnOk result (map object_of found.new.items ≡ map object_of found.old.items ++ map (typed_object file names.now (type_of type_expr.now)) names.now) }
+    ensures { OnOk result (map object_view found.new.items ≡ map object_view found.old.items ++ map (typed_object file names.now (type_of type_expr.now)) names.now) }
 {
     for name in names {
         found.push(Object {
@@ -242,8 +242,8 @@ fn add_valued_variables<'a>(
     values: &'a [Expr],
     found: &mut Vec<Object<'a>>,
 ) -> Result<(), AllocError>
-    ensures { OnOk result (map object_of found.new.items
-        ≡ map object_of found.old.items ++ variables_of file (record { names = names.now; type = None; values = exprs_in values.now })) }
+    ensures { OnOk result (map object_view found.new.items
+        ≡ map object_view found.old.items ++ variables_of file (record { names = names.now; type = None; values = exprs_in values.now })) }
 {
     if names.len() == values.len() {
         add_paired_variables(file, names, values, found)
@@ -259,7 +259,7 @@ fn add_uncounted<'a>(
     values: &'a [Expr],
     found: &mut Vec<Object<'a>>,
 ) -> Result<(), AllocError>
-    ensures { OnOk result (map object_of found.new.items ≡ map object_of found.old.items ++ uncounted file names.now (exprs_in values.now)) }
+    ensures { OnOk result (map object_view found.new.items ≡ map object_view found.old.items ++ uncounted file names.now (exprs_in values.now)) }
 {
     if values.len() == 1 {
         return add_result_variables(file, names, &values[0], found);
@@ -278,8 +278,8 @@ fn add_result_variables<'a>(
     value: &'a Expr,
     found: &mut Vec<Object<'a>>,
 ) -> Result<(), AllocError>
-    ensures { OnOk result (map object_of found.new.items
-        ≡ map object_of found.old.items ++ result_objects file names.now 0 (expr_of value.now) names.now) }
+    ensures { OnOk result (map object_view found.new.items
+        ≡ map object_view found.old.items ++ result_objects file names.now 0 (expr_of value.now) names.now) }
 {
     for (number, name) in names.iter().enumerate() {
         found.push(Object {
@@ -299,8 +299,8 @@ fn add_paired_variables<'a>(
     found: &mut Vec<Object<'a>>,
 ) -> Result<(), AllocError>
     requires { length names.now ≡ length values.now }
-    ensures { OnOk result (map object_of found.new.items
-        ≡ map object_of found.old.items ++ variables_of file (record { names = names.now; type = None; values = exprs_in values.now })) }
+    ensures { OnOk result (map object_view found.new.items
+        ≡ map object_view found.old.items ++ variables_of file (record { names = names.now; type = None; values = exprs_in values.now })) }
 {
     for (name, value) in names.iter().zip(values) {
         found.push(Object {
@@ -318,7 +318,7 @@ fn add_all_variables<'a>(
     specs: &'a [VarSpec],
     found: &mut Vec<Object<'a>>,
 ) -> Result<(), AllocError>
-    ensures { OnOk result (map object_of found.new.items ≡ map object_of found.old.items ++ flat_map (variables_of file) (map var_of specs.now)) }
+    ensures { OnOk result (map object_view found.new.items ≡ map object_view found.old.items ++ flat_map (variables_of file) (map var_of specs.now)) }
 {
     for spec in specs {
         add_variables(file, spec, found)?;
@@ -331,7 +331,7 @@ fn add_types<'a>(
     specs: &'a [TypeSpec],
     found: &mut Vec<Object<'a>>,
 ) -> Result<(), AllocError>
-    ensures { OnOk result (map object_of found.new.items ≡ map object_of found.old.items ++ map (type_object file) (map type_spec_of specs.now)) }
+    ensures { OnOk result (map object_view found.new.items ≡ map object_view found.old.items ++ map (type_object file) (map type_spec_of specs.now)) }
 {
     for spec in specs {
         found.push(Object {
@@ -350,7 +350,7 @@ fn add_function<'a>(
     function: &'a Function,
     found: &mut Vec<Object<'a>>,
 ) -> Result<(), AllocError>
-    ensures { OnOk result (map object_of found.new.items ≡ map object_of found.old.items ++ objects_in file (trees.function (function_of function.now))) }
+    ensures { OnOk result (map object_view found.new.items ≡ map object_view found.old.items ++ objects_in file (trees.function (function_of function.now))) }
 {
     if function.name.text() == "init" {
         return Ok(());

@@ -2,13 +2,13 @@
 ghost use Rattle.std.specs.Prelude.{◌≡◌, nat_eq, if◌then◌else◌, length, slice_get, option_and_then, Some, None, IfOk};
 ghost use Rattle.std.specs.Option.{option_map};
 ghost use Rattle.go_ast.specs.Views.{expr_of as expr_tree, type_of as type_tree};
-ghost use Rattle.go_types.specs.Views.{type_of};
-ghost use Rattle.go_typed.specs.Views.{expr_of};
+ghost use Rattle.go_types.specs.Views.{go_type};
+ghost use Rattle.go_typed.specs.Views.{as_expr};
 ghost use Rattle.go_expr.specs.Rules.{fine, valued, constant_due, is_small, settled_type};
 ghost use Rattle.go_expr.specs.Verdicts.{operand, verdict, type_verdict};
-ghost use Rattle.go_expr.specs.Seen.{declared_of, names_of, scope_of};
-ghost use Rattle.go_objects.specs.Table.{scope_at, value_of, constant_verdict, named_type, result_type, variable, iota_in, form_verdict, object_verdict, declared_in};
-ghost use Rattle.go_objects.specs.Seen.{form_of, object_of};
+ghost use Rattle.go_expr.specs.Views.{declared_of, names_of, scope_of};
+ghost use Rattle.go_objects.specs.Table.{scope_at, declared_value, constant_verdict, named_type, call_result_type, variable, iota_in, form_verdict, object_verdict, declared_in};
+ghost use Rattle.go_objects.specs.Views.{form_of, object_view};
 ghost use Rattle.go_objects.specs.Packages.{package_of};
 
 use crate::object::{Form, Object};
@@ -38,7 +38,7 @@ pub(crate) fn declared_by(
     object: &Object<'_>,
 ) -> Result<Option<Declared>, AllocError>
     ensures { IfOk result (λ d. option_map declared_of d
-        ≡ declared_in (fine (object_verdict (package_of «package».now) (names_of known.now) (object_of object.now)))) }
+        ≡ declared_in (fine (object_verdict (package_of «package».now) (names_of known.now) (object_view object.now)))) }
 {
     let scope = scope_in(package, known, object.file, iota_in(object.form));
     declared_as(alloc, &scope, package.path, object.name.text(), object.form)
@@ -130,7 +130,7 @@ fn constant_in(
 }
 
 fn declared_constant(value: &TypedExpr) -> Result<Option<Declared>, AllocError>
-    ensures { IfOk result (λ d. option_map declared_of d ≡ declared_in (fine (valued (constant_due (expr_of value.now))))) }
+    ensures { IfOk result (λ d. option_map declared_of d ≡ declared_in (fine (valued (constant_due (as_expr value.now))))) }
 {
     let Some(constant) = constant_of_value(value) else {
         return Ok(None);
@@ -146,7 +146,7 @@ fn assigned_in(
     of: &TypeExpr,
     value: &Expr,
 ) -> Result<Option<TypedExpr>, AllocError>
-    ensures { IfOk result (λ v. option_map expr_of v ≡ value_of (scope_of scope.now) (Some (type_tree of.now)) (expr_tree value.now)) }
+    ensures { IfOk result (λ v. option_map as_expr v ≡ declared_value (scope_of scope.now) (Some (type_tree of.now)) (expr_tree value.now)) }
 {
     let Some(of) = type_in(alloc, scope, of)? else {
         return Ok(None);
@@ -169,7 +169,7 @@ fn variable(
     of: Option<GoType>,
 ) -> Result<Option<Declared>, AllocError>
     ensures { IfOk result (λ d. option_map declared_of d
-        ≡ declared_in (fine (variable (record { path = path.now; name = name.now }) (option_map type_of of)))) }
+        ≡ declared_in (fine (variable (record { path = path.now; name = name.now }) (option_map go_type of)))) }
 {
     let Some(of) = of else {
         return Ok(None);
@@ -188,7 +188,7 @@ pub(crate) fn symbol(alloc: Global, path: &str, name: &str) -> Result<Symbol, Al
 
 // The type that a variable takes of its value, if that is known and lies in it.
 fn value_type(alloc: Global, scope: &Scope<'_>, value: &Expr) -> Result<Option<GoType>, AllocError>
-    ensures { IfOk result (λ t. option_map type_of t
+    ensures { IfOk result (λ t. option_map go_type t
         ≡ option_and_then settled_type (operand (verdict (scope_of scope.now) (expr_tree value.now)))) }
 {
     match operand_in(alloc, scope, value)? {
@@ -205,7 +205,7 @@ fn result_type(
     count: usize,
     value: &Expr,
 ) -> Result<Option<GoType>, AllocError>
-    ensures { IfOk result (λ t. option_map type_of t ≡ result_type number count (fine (verdict (scope_of scope.now) (expr_tree value.now)))) }
+    ensures { IfOk result (λ t. option_map go_type t ≡ call_result_type number count (fine (verdict (scope_of scope.now) (expr_tree value.now)))) }
 {
     match check_expr(alloc, scope, value) {
         Ok(Some(Known::Results(types, _, _))) => numbered_type(&types, number, count),
@@ -221,7 +221,7 @@ fn numbered_type(
     number: usize,
     count: usize,
 ) -> Result<Option<GoType>, AllocError>
-    ensures { IfOk result (λ t. option_map type_of t ≡ (if nat_eq (length types.now) count then option_map type_of (slice_get types.now number) else None)) }
+    ensures { IfOk result (λ t. option_map go_type t ≡ (if nat_eq (length types.now) count then option_map go_type (slice_get types.now number) else None)) }
 {
     if types.len() != count {
         return Ok(None);
@@ -238,7 +238,7 @@ pub fn operand_in(
     scope: &Scope<'_>,
     value: &Expr,
 ) -> Result<Option<TypedExpr>, AllocError>
-    ensures { IfOk result (λ v. option_map expr_of v ≡ operand (verdict (scope_of scope.now) (expr_tree value.now))) }
+    ensures { IfOk result (λ v. option_map as_expr v ≡ operand (verdict (scope_of scope.now) (expr_tree value.now))) }
 {
     match check_operand(alloc, scope, value) {
         Ok(value) => Ok(value),
@@ -253,7 +253,7 @@ pub fn type_in(
     scope: &Scope<'_>,
     of: &TypeExpr,
 ) -> Result<Option<GoType>, AllocError>
-    ensures { IfOk result (λ t. option_map type_of t ≡ fine (type_verdict (scope_of scope.now) (type_tree of.now))) }
+    ensures { IfOk result (λ t. option_map go_type t ≡ fine (type_verdict (scope_of scope.now) (type_tree of.now))) }
 {
     match check_type(alloc, scope, of) {
         Ok(found) => Ok(found),
@@ -270,7 +270,7 @@ pub fn named_type(
     name: &str,
     of: &GoType,
 ) -> Result<Option<Declared>, AllocError>
-    ensures { IfOk result (λ d. option_map declared_of d ≡ declared_in (fine (named_type path.now name.now (type_of of.now)))) }
+    ensures { IfOk result (λ d. option_map declared_of d ≡ declared_in (fine (named_type path.now name.now (go_type of.now)))) }
 {
     let path = String::from_str(alloc, path)?;
     let name = String::from_str(alloc, name)?;
@@ -285,7 +285,7 @@ pub fn named_type(
 
 // Whether a type and its values have no more parts than they may.
 fn is_small(of: &GoType) -> bool
-    ensures { result ≡ is_small (type_of of.now) }
+    ensures { result ≡ is_small (go_type of.now) }
 {
     nodes(of).is_ok() && cells(of).is_ok()
 }

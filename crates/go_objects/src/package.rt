@@ -6,8 +6,8 @@ ghost use Rattle.go_ast.specs.Views.{type_of, exprs_in, parameter_of};
 ghost use Rattle.go_scope.specs.Names.{in_type, in_exprs, used};
 ghost use Rattle.ws_reach.specs.Reach.{EdgesStayWithin, rows_of};
 ghost use Rattle.go_objects.specs.Table.{in_written, used_by, is_hidden, imports_at, needs, rows};
-ghost use Rattle.go_objects.specs.Seen.{form_of, object_of, spec_of};
-ghost use Rattle.go_objects.specs.Packages.{imports_of, package_of};
+ghost use Rattle.go_objects.specs.Views.{form_of, object_view, spec_of};
+ghost use Rattle.go_objects.specs.Packages.{declared_imports, package_of};
 
 use crate::declarations::Spec;
 use crate::object::{Form, Object};
@@ -51,7 +51,7 @@ fn needs(
     package: &Package<'_>,
     object: &Object<'_>,
 ) -> Result<Vec<usize>, AllocError>
-    ensures { IfOk result (λ row. row.items ≡ needs (package_of «package».now) (object_of object.now)) }
+    ensures { IfOk result (λ row. row.items ≡ needs (package_of «package».now) (object_view object.now)) }
 {
     let mut names = Vec::new(alloc);
     add_used(object.form, &mut names)?;
@@ -70,7 +70,7 @@ fn needs(
 
 /// What the imports of a file declare.
 pub fn imports_at<'a>(package: &'a Package<'a>, file: usize) -> &'a [Import<'a>]
-    ensures { imports_of result.now ≡ imports_at (package_of «package».now) file }
+    ensures { declared_imports result.now ≡ imports_at (package_of «package».now) file }
 {
     match package.imports.get(file) {
         Some(imports) => imports.as_slice(),
@@ -80,7 +80,7 @@ pub fn imports_at<'a>(package: &'a Package<'a>, file: usize) -> &'a [Import<'a>]
 
 // Whether one of some imports has a name.
 fn is_hidden(imports: &[Import<'_>], name: &str) -> bool
-    ensures { result ≡ is_hidden (imports_of imports.now) name.now }
+    ensures { result ≡ is_hidden (declared_imports imports.now) name.now }
 {
     for import in imports {
         if name == import.name {

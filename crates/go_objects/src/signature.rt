@@ -4,10 +4,10 @@ ghost use Rattle.std.specs.List.{filter, flat_map};
 ghost use Rattle.std.specs.Option.{option_map};
 ghost use Rattle.go_ast.specs.Trees as trees;
 ghost use Rattle.go_ast.specs.Views.{type_of as type_tree, parameter_of};
-ghost use Rattle.go_types.specs.Views.{type_of};
-ghost use Rattle.go_expr.specs.Rules.{fine, differ};
-ghost use Rattle.go_expr.specs.Verdicts.{joined};
-ghost use Rattle.go_expr.specs.Seen.{all_of, declared_of, scope_of};
+ghost use Rattle.go_types.specs.Views.{go_type};
+ghost use Rattle.go_expr.specs.Rules.{fine, are_distinct};
+ghost use Rattle.go_expr.specs.Verdicts.{chained};
+ghost use Rattle.go_expr.specs.Views.{all_of, declared_of, scope_of};
 ghost use Rattle.go_objects.specs.Table.{types_known, parameters_known, parameter_names, own_names, function_verdict, declared_in};
 
 use crate::evaluation::{symbol, type_in};
@@ -59,7 +59,7 @@ fn types_in(
     scope: &Scope<'_>,
     types: &[TypeExpr],
 ) -> Result<Option<Vec<GoType>>, AllocError>
-    ensures { IfOk result (λ ts. option_map (all_of type_of) ts ≡ types_known (scope_of scope.now) (map type_tree types.now)) }
+    ensures { IfOk result (λ ts. option_map (all_of go_type) ts ≡ types_known (scope_of scope.now) (map type_tree types.now)) }
 {
     let mut all = Vec::new(alloc);
     for of in types {
@@ -78,7 +78,7 @@ fn parameters_in(
     scope: &Scope<'_>,
     parameters: &[Parameter],
 ) -> Result<Option<Vec<GoType>>, AllocError>
-    ensures { IfOk result (λ ts. option_map (all_of type_of) ts ≡ parameters_known (scope_of scope.now) (map parameter_of parameters.now)) }
+    ensures { IfOk result (λ ts. option_map (all_of go_type) ts ≡ parameters_known (scope_of scope.now) (map parameter_of parameters.now)) }
 {
     let mut all = Vec::new(alloc);
     for parameter in parameters {
@@ -92,7 +92,7 @@ fn parameters_in(
 
 // Adds a type once for every name.
 fn add_copies(of: &GoType, names: &[Name], all: &mut Vec<GoType>) -> Result<(), AllocError>
-    ensures { OnOk result (map type_of all.new.items ≡ map type_of all.old.items ++ map (λ n. type_of of.now) names.now) }
+    ensures { OnOk result (map go_type all.new.items ≡ map go_type all.old.items ++ map (λ n. go_type of.now) names.now) }
 {
     for _ in names {
         all.push(of.copy()?)?;
@@ -125,7 +125,7 @@ fn add_names<'a>(names: &'a [Name], all: &mut Vec<&'a str>) -> Result<(), AllocE
 
 // Whether no name stands twice among some.
 fn differ(alloc: Global, names: &[&str]) -> Result<bool, AllocError>
-    ensures { IfOk result (λ b. b ≡ differ (map (λ n. n.now) names.now)) }
+    ensures { IfOk result (λ b. b ≡ are_distinct (map (λ n. n.now) names.now)) }
 {
     let mut seen = IndexSet::new(alloc);
     for name in names {

@@ -2,9 +2,9 @@
 ghost use Rattle.std.specs.Prelude.{◌≡◌, Some, None, slice_get, IfOk, OnOk};
 ghost use Rattle.std.specs.Option.{option_map};
 ghost use Rattle.indexmap.specs.IndexMap.{set_value_at};
-ghost use Rattle.go_expr.specs.Seen.{declared_of, names_of};
+ghost use Rattle.go_expr.specs.Views.{declared_of, names_of};
 ghost use Rattle.go_expr.specs.Rules.{fine};
-ghost use Rattle.go_objects.specs.Objects.{Object};
+ghost use Rattle.go_objects.specs.Objects.{DeclaredObject};
 ghost use Rattle.go_objects.specs.Table.{IsTable, object_verdict, declared_in};
 ghost use Rattle.go_objects.specs.Packages.{package_of};
 
@@ -36,7 +36,7 @@ fn fill(
     number: usize,
     known: &mut Names,
 ) -> Result<(), AllocError>
-    ensures there { OnOk result ((o : Object) → slice_get (package_of «package».now).objects number ≡ Some o
+    ensures there { OnOk result ((o : DeclaredObject) → slice_get (package_of «package».now).objects number ≡ Some o
         → names_of known.new
         ≡ set_value_at (names_of known.old) number (declared_in (fine (object_verdict (package_of «package».now) (names_of known.old) o)))) }
     ensures past { OnOk result (slice_get (package_of «package».now).objects number ≡ None → names_of known.new ≡ names_of known.old) }

@@ -1,20 +1,20 @@
-pub mod ByPath
-pub mod Contexts
-pub mod Dotted
+mod ByPath
+mod Contexts
+mod Dotted
 pub mod Faultless
-pub mod Groups
-pub mod Marks
+mod Groups
+mod Marks
 pub mod OneFault
 pub mod OneTyped
-pub mod Own
-pub mod Parts
-pub mod Repeated
-pub mod Several
-pub mod Single
+mod Own
+mod Parts
+mod Repeated
+mod Several
+mod Single
 pub mod SomeFacts
-pub mod SomeMarks
-pub mod SomeTable
-pub mod Sources
-pub mod Walks
+mod SomeMarks
+mod SomeTable
+mod Sources
+mod Walks
 pub mod Whole
 pub mod Within

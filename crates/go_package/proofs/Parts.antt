@@ -11,13 +11,13 @@ use Rattle.go_expr.specs.declared.error.ExprError.{ExprError}
 use Rattle.go_expr.specs.declared.error.ExprError.TheVariants.{Faulty, Memory}
 use Rattle.go_expr.specs.declared.error.RuleError.{RuleError}
 use Rattle.go_expr.specs.declared.error.RuleError.TheVariants as rules
-use Rattle.go_expr.specs.Seen.{Fails, Gives, LocatedAt}
-use Rattle.go_expr.specs.Verdicts.{asked, both, broken, operands}
+use Rattle.go_expr.specs.Views.{Fails, Gives, LocatedAt}
+use Rattle.go_expr.specs.Verdicts.{asked, both, broken, operand_list}
 use Rattle.go_stmt.specs.Statements.{values_known}
-use Rattle.go_objects.specs.Objects.{Object}
+use Rattle.go_objects.specs.Objects.{DeclaredObject}
 use Rattle.go_objects.specs.Table.{scope_at}
-use Rattle.go_package.specs.Faults.{Facts, Faults, name_faults, parts_faults, written_type, apart, constants_by, constants_faults, var_parts_faults, variables_by, var_spec_faults}
-use Rattle.go_package.specs.Seen.{Finds}
+use Rattle.go_package.specs.Faults.{Facts, Faults, name_faults, parts_faults, written_type, apart, constants_by, constant_spec_faults, var_parts_faults, variables_by, var_spec_faults}
+use Rattle.go_package.specs.Views.{Finds}
 
 pub sooner : (e : ExprError) (fs gs : Faults) → Fails e fs → Fails e (fs ++ gs)
 sooner Memory fs gs h = tt
@@ -30,12 +30,12 @@ later r (f ∷ fs) gs none h = cc
 -- ---- a specification whose names and parts have no fault
 
 abbrev whole_constants : Facts → ℕ → ℕ → Place → Scope → trees.ConstSpec → Faults
-whole_constants t file iota p s spec = constants_by t file iota p spec (written_type s spec.type) (operands s spec.values)
+whole_constants t file iota p s spec = constants_by t file iota p spec (written_type s spec.type) (operand_list s spec.values)
 
-pub checked_spec : {X : Type 0} (r : Result X ExprError) (t : Facts) (file iota : ℕ) (repeated : Bool) (ns : List Name) (of : Option TypeExpr) (es : trees.Exprs) (s : Scope) (n : Name) (p : Place) →
+pub checked_spec : {X : Type 0} (r : Result X ExprError) (t : Facts) (file iota : ℕ) (repeated : Bool) (ns : List Name) (of : Option TypeExpr) (es : trees.ExpressionList) (s : Scope) (n : Name) (p : Place) →
     slice_get ns 0 ≡ Some n → p ≡ n.place → s ≡ scope_at t.package t.known file (Some iota) → flat_map (name_faults t file) ns ≡ [] →
     Finds r (parts_faults t file repeated p s (record { names = ns; type = of; values = es }) ++ whole_constants t file iota p s (record { names = ns; type = of; values = es })) →
-    Finds r (constants_faults t file iota repeated (record { names = ns; type = of; values = es }))
+    Finds r (constant_spec_faults t file iota repeated (record { names = ns; type = of; values = es }))
 checked_spec r t file iota repeated [] of es s n p first there stands names h = cc
 checked_spec r t file iota repeated (m ∷ ms) of es s n p first there stands names h =
     let spec : trees.ConstSpec = record { names = m ∷ ms; type = of; values = es } in
@@ -50,7 +50,7 @@ checked_spec r t file iota repeated (m ∷ ms) of es s n p first there stands na
 abbrev whole_variables : Facts → ℕ → Place → Scope → trees.VarSpec → Faults
 whole_variables t file p s spec = variables_by t file p spec (written_type s spec.type) (values_known s spec.values)
 
-pub checked_variables : {X : Type 0} (r : Result X ExprError) (t : Facts) (file : ℕ) (ns : List Name) (of : Option TypeExpr) (es : trees.Exprs) (s : Scope) (n : Name) (p : Place) →
+pub checked_variables : {X : Type 0} (r : Result X ExprError) (t : Facts) (file : ℕ) (ns : List Name) (of : Option TypeExpr) (es : trees.ExpressionList) (s : Scope) (n : Name) (p : Place) →
     slice_get ns 0 ≡ Some n → p ≡ n.place → s ≡ scope_at t.package t.known file None → flat_map (name_faults t file) ns ≡ [] → var_parts_faults s (record { names = ns; type = of; values = es }) ≡ [] →
     Finds r (whole_variables t file p s (record { names = ns; type = of; values = es })) →
     Finds r (var_spec_faults t file (record { names = ns; type = of; values = es }))
@@ -66,7 +66,7 @@ checked_variables r t file (m ∷ ms) of es s n p first there stands names parts
     (later r own (rest p s) names (later r (var_parts_faults s spec) (whole_variables t file p s spec) parts h)))
 
 -- a fault of the parts
-pub parts_fail : (e : ExprError) (t : Facts) (file : ℕ) (ns : List Name) (of : Option TypeExpr) (es : trees.Exprs) (s : Scope) (n : Name) →
+pub parts_fail : (e : ExprError) (t : Facts) (file : ℕ) (ns : List Name) (of : Option TypeExpr) (es : trees.ExpressionList) (s : Scope) (n : Name) →
     slice_get ns 0 ≡ Some n → s ≡ scope_at t.package t.known file None → flat_map (name_faults t file) ns ≡ [] → Fails e (var_parts_faults s (record { names = ns; type = of; values = es })) →
     Fails e (var_spec_faults t file (record { names = ns; type = of; values = es }))
 parts_fail e t file [] of es s n first stands names h = cc
@@ -79,10 +79,10 @@ parts_fail e t file (m ∷ ms) of es s n first stands names h =
 
 -- ---- a specification as a whole, or each of its objects by itself
 
-pub asked_whole : {X : Type 0} (r : Result X ExprError) (t : Facts) (file : ℕ) (p : Place) (known : Bool) (us : List Used) (os : List Object) (fs : Faults) → known ≡ true → Finds r fs → Finds r (fs ++ apart t file p known us os)
+pub asked_whole : {X : Type 0} (r : Result X ExprError) (t : Facts) (file : ℕ) (p : Place) (known : Bool) (us : List Used) (os : List DeclaredObject) (fs : Faults) → known ≡ true → Finds r fs → Finds r (fs ++ apart t file p known us os)
 asked_whole r t file p known us os fs is h = subst (λ b. Finds r (fs ++ apart t file p b us os)) (sym is) (subst (λ l. Finds r l) (sym (append-nil fs)) h)
 
-pub asked_apart : {X A C : Type 0} (r : Result X ExprError) (t : Facts) (file : ℕ) (p : Place) (rule : A → Verdict C) (parts : Option A) (us : List Used) (os : List Object) → is_some parts ≡ false →
+pub asked_apart : {X A C : Type 0} (r : Result X ExprError) (t : Facts) (file : ℕ) (p : Place) (rule : A → Verdict C) (parts : Option A) (us : List Used) (os : List DeclaredObject) → is_some parts ≡ false →
     Finds r (apart t file p false us os) → Finds r (broken p (asked rule parts) ++ apart t file p (is_some parts) us os)
 asked_apart r t file p rule None us os is h = h
 asked_apart r t file p rule (Some x) us os is h = absurd cc

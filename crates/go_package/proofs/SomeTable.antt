@@ -9,8 +9,8 @@ use Rattle.ws_reach.specs.Reach.{EdgesStayWithin}
 use Rattle.go_scope.specs.Order.{GroundedIn, Grounded}
 use Rattle.go_expr.specs.Known.{Declared, Names, Known, Verdict}
 use Rattle.go_expr.specs.Rules.{fine}
-use Rattle.go_objects.specs.Objects.{Object}
-use Rattle.go_objects.specs.Table.{Package, rows, object_verdict, declared_in, IsTable}
+use Rattle.go_objects.specs.Objects.{DeclaredObject}
+use Rattle.go_objects.specs.Table.{PackageTable, rows, object_verdict, declared_in, IsTable}
 use Rattle.go_objects.proofs.Groundedness.{is_grounded}
 use Rattle.go_objects.proofs.Lookups.{Named, same_object, need_edge, get_mapped, rows_stay, length_rows}
 use Rattle.go_objects.proofs.Filling.{entry_by, unknown_entry}
@@ -47,19 +47,19 @@ depth rows within (suc l) =
 
 -- ---- rounds
 
-abbrev round : Package → ℕ → Names
+abbrev round : PackageTable → ℕ → Names
 round p zero = map unknown_entry p.objects
 round p (suc n) = map (entry_by p (round p n)) p.objects
 
-names_mapped : (d : Object → Option Declared) (os : List Object) → map (λ (n : List ℕ × Option Declared). n.0) (map (λ (o : Object). (o.name.text, d o)) os) ≡ map (λ (o : Object). o.name.text) os
+names_mapped : (d : DeclaredObject → Option Declared) (os : List DeclaredObject) → map (λ (n : List ℕ × Option Declared). n.0) (map (λ (o : DeclaredObject). (o.name.text, d o)) os) ≡ map (λ (o : DeclaredObject). o.name.text) os
 names_mapped d [] = refl
 names_mapped d (o ∷ os) = ap (λ l. o.name.text ∷ l) (names_mapped d os)
 
-round_named : (p : Package) (n : ℕ) → Named p.objects (round p n)
+round_named : (p : PackageTable) (n : ℕ) → Named p.objects (round p n)
 round_named p zero = names_mapped (λ o. None) p.objects
 round_named p (suc n) = names_mapped (λ o. declared_in (fine (object_verdict p (round p n) o))) p.objects
 
-round_at : (p : Package) (n k : ℕ) (o : Object) → slice_get p.objects k ≡ Some o → (d : Option Declared) × (slice_get (round p n) k ≡ Some (o.name.text, d))
+round_at : (p : PackageTable) (n k : ℕ) (o : DeclaredObject) → slice_get p.objects k ≡ Some o → (d : Option Declared) × (slice_get (round p n) k ≡ Some (o.name.text, d))
 round_at p zero k o at = (None, get_mapped unknown_entry p.objects k o at)
 round_at p (suc n) k o at = (declared_in (fine (object_verdict p (round p n) o)), get_mapped (entry_by p (round p n)) p.objects k o at)
 
@@ -68,7 +68,7 @@ mapped_past f [] k e = refl
 mapped_past f (x ∷ xs) zero e = cc
 mapped_past f (x ∷ xs) (suc k) e = mapped_past f xs k e
 
-steady : (p : Package) (n k : ℕ) → GroundedIn (rows p) n k → slice_get (round p n) k ≡ slice_get (round p (suc n)) k
+steady : (p : PackageTable) (n k : ℕ) → GroundedIn (rows p) n k → slice_get (round p n) k ≡ slice_get (round p (suc n)) k
 steady p zero k g = absurd g
 steady p (suc n) k g = elim (slice_get p.objects k) as (λ r. slice_get p.objects k ≡ r → slice_get (round p (suc n)) k ≡ slice_get (round p (suc (suc n))) k) [
   | None ↦ λ past. mapped_past (entry_by p (round p n)) p.objects k past ∙ sym (mapped_past (entry_by p (round p (suc n))) p.objects k past)
@@ -100,7 +100,7 @@ dropped test (e ∷ es) zero x d f at = (let same : e.0 ≡ x = cc (at) in ap (�
 dropped test (e ∷ es) (suc k) x d f at = dropped (λ j. test (suc j)) es k x d f at
 
 -- what is grounded passes, so its needs have what the round before it found
-settled : (p : Package) (test : ℕ → Bool) → ((k : ℕ) → Grounded (rows p) k → test k ≡ true) → (n k : ℕ) (o : Object) → slice_get p.objects k ≡ Some o → GroundedIn (rows p) n k →
+settled : (p : PackageTable) (test : ℕ → Bool) → ((k : ℕ) → Grounded (rows p) k → test k ≡ true) → (n k : ℕ) (o : DeclaredObject) → slice_get p.objects k ≡ Some o → GroundedIn (rows p) n k →
     slice_get (round p n) k ≡ Some (entry_by p (chosen test (round p n)) o)
 settled p test pass zero k o at g = absurd g
 settled p test pass (suc n) k o at g =
@@ -124,7 +124,7 @@ unfolding is_left
 right (inl a) never = absurd (never a)
 right (inr b) never = refl
 
-pub some_table : (p : Package) → (known : Names) × IsTable p known
+pub some_table : (p : PackageTable) → (known : Names) × IsTable p known
 some_table p =
     let test : ℕ → Bool = λ k. is_left (decided (rows p) (rows_stay p) k) in
     let pass : (k : ℕ) → Grounded (rows p) k → test k ≡ true = λ k g. left (decided (rows p) (rows_stay p) k) (λ never. never g) in

@@ -6,11 +6,11 @@ use Rattle.go_ast.specs.Views.{file_of}
 use Rattle.go_ast.specs.declared.file.File.{File}
 use Rattle.go_objects.proofs.Signatures.{next_of}
 use Rattle.go_expr.specs.declared.error.ExprError.{ExprError}
-use Rattle.go_expr.specs.Seen.{Fails}
+use Rattle.go_expr.specs.Views.{Fails}
 use Rattle.go_package.specs.Faults.{Faults}
-use Rattle.go_package.specs.Seen.{files_of}
+use Rattle.go_package.specs.Views.{files_of}
 use Rattle.go_package.specs.Typed.{of_files}
-use Rattle.go_package.specs.Told.{in_file}
+use Rattle.go_package.specs.Results.{in_file}
 use Rattle.go_package.proofs.Several.{sooner}
 
 joined : {A : Type 0} (old new here rest left whole : List A) → old ++ left ≡ whole → left ≡ here ++ rest → new ≡ old ++ here → new ++ rest ≡ whole

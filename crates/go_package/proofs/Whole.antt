@@ -4,7 +4,7 @@ use Rattle.std.specs.List.{flat_map}
 use Rattle.go_ast.specs.Trees.{File}
 use Rattle.go_package.specs.Faults.{Facts, Faults, top_faults, files_faults}
 use Rattle.go_package.specs.Imports.{Importable, imports_in}
-use Rattle.go_package.specs.Packages.{each_file, imports_faults, file_faults, constants_faults, main_faults, package_faults}
+use Rattle.go_package.specs.Packages.{each_file, imports_faults, file_faults, objects_faults, main_faults, package_faults}
 
 front : {A : Type 0} (xs ys : List A) → xs ++ ys ≡ [] → xs ≡ []
 front [] ys h = refl
@@ -29,4 +29,4 @@ none_declared ps t number (f ∷ fs) h =
     ap (λ (l : Faults). map (λ x. (number, x)) l ++ files_faults t (suc number) fs) none ∙ none_declared ps t (suc number) fs (back here rest h)
 
 pub no_faults : (ps : List Importable) (t : Facts) (files : List File) → package_faults ps t files ≡ [] → files_faults t 0 files ≡ []
-no_faults ps t files h = none_declared ps t 0 files (front (each_file (file_faults ps t) 0 files) (constants_faults t files ++ main_faults t files) h)
+no_faults ps t files h = none_declared ps t 0 files (front (each_file (file_faults ps t) 0 files) (objects_faults t files ++ main_faults t files) h)

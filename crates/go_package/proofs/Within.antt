@@ -6,13 +6,13 @@ use Rattle.go_text.specs.declared.edition.Edition.{Edition}
 use Rattle.go_text.specs.declared.place.Place.{Place}
 use Rattle.go_text.specs.declared.fault.FaultKind.{FaultKind}
 use Rattle.go_text.specs.declared.fault.FaultKind.TheVariants.{Main}
-use Rattle.go_ast.specs.Trees.{Name, TypeExpr, Expr, Exprs, no_exprs, some_exprs, ConstSpec, VarSpec, constants, variables, types, TopLevel, declared, function, File}
+use Rattle.go_ast.specs.Trees.{Name, TypeExpr, Expression, ExpressionList, no_exprs, some_exprs, ConstSpec, VarSpec, constants, variables, types, TopLevel, declared, function, File}
 use Rattle.go_scope.specs.Specifications.{meant}
-use Rattle.go_objects.specs.Objects.{Object, constant, function', paired, begin_of, other_object, unpaired, constants_of, in_group, typed_object, valued_object, result_objects, uncounted, variables_of, type_object, objects_in, objects_from}
+use Rattle.go_objects.specs.Objects.{DeclaredObject, constant, function', paired, begin_of, other_object, unpaired, constants_of, in_group, typed_object, valued_object, result_objects, uncounted, variables_of, type_object, objects_in, objects_from}
 use Rattle.go_objects.specs.Table.{number_of}
 use Rattle.go_package.specs.Faults.{Facts, Faults, object_faults}
 use Rattle.go_package.specs.Imports.{Importable}
-use Rattle.go_package.specs.Packages.{Numbered, each_file, file_faults, numbered_faults, constants_faults, absent_main_faults, main_faults, names_faults, package_faults, IsFaultOf}
+use Rattle.go_package.specs.Packages.{FileFaults, each_file, file_faults, numbered_faults, objects_faults, absent_main_faults, main_faults, reserved_names_faults, package_faults, IsFaultOf}
 
 -- ---- lists of what stands in files of lower numbers
 
@@ -34,32 +34,32 @@ all_flat file n f h (x ∷ xs) = all_append file n (f x) (flat_map f xs) (h x) (
 
 -- ---- objects
 
-abbrev number : Object → ℕ
+abbrev number : DeclaredObject → ℕ
 number o = o.file
 
-abbrev Objects : ℕ → List Object → Type 0
+abbrev Objects : ℕ → List DeclaredObject → Type 0
 Objects n os = All number n os
 
-abbrev OnSome : ℕ → Option (List Object) → Type 0
+abbrev OnSome : ℕ → Option (List DeclaredObject) → Type 0
 OnSome n None = Unit {0}
 OnSome n (Some os) = Objects n os
 
-or_else : (n : ℕ) (o : Option (List Object)) (os : List Object) → OnSome n o → Objects n os → Objects n (unwrap_or o os)
+or_else : (n : ℕ) (o : Option (List DeclaredObject)) (os : List DeclaredObject) → OnSome n o → Objects n os → Objects n (unwrap_or o os)
 or_else n None os h k = k
 or_else n (Some xs) os h k = h
 
-one_more : (n : ℕ) (x : Object) (o : Option (List Object)) → x.file < n → OnSome n o → OnSome n (option_map (λ xs. x ∷ xs) o)
+one_more : (n : ℕ) (x : DeclaredObject) (o : Option (List DeclaredObject)) → x.file < n → OnSome n o → OnSome n (option_map (λ xs. x ∷ xs) o)
 one_more n x None h k = tt
 one_more n x (Some xs) h k = (h, k)
 
-all_paired : (n : ℕ) (f : Name → Expr → Object) → ((x : Name) (e : Expr) → (f x e).file < n) → (ns : List Name) (es : Exprs) → OnSome n (paired f ns es)
+all_paired : (n : ℕ) (f : Name → Expression → DeclaredObject) → ((x : Name) (e : Expression) → (f x e).file < n) → (ns : List Name) (es : ExpressionList) → OnSome n (paired f ns es)
 all_paired n f h [] no_exprs = tt
 all_paired n f h [] (some_exprs e es) = tt
 all_paired n f h (x ∷ ns) no_exprs = tt
 all_paired n f h (x ∷ ns) (some_exprs e es) = one_more n (f x e) (paired f ns es) (h x e) (all_paired n f h ns es)
 
 module _ (n k : ℕ) (lt : k < n) where
-  all_unpaired : (t : Option TypeExpr) (es : Exprs) (ns : List Name) → Objects n (unpaired k t es ns)
+  all_unpaired : (t : Option TypeExpr) (es : ExpressionList) (ns : List Name) → Objects n (unpaired k t es ns)
   all_unpaired t es ns = all_mapped number n (other_object k ns t es) (λ x. lt) ns
 
   all_constants : (iota : ℕ) (s : ConstSpec) → Objects n (constants_of k iota s)
@@ -72,11 +72,11 @@ module _ (n k : ℕ) (lt : k < n) where
   all_group iota before (s ∷ ss) =
       all_append number n (constants_of k iota (meant before s)) (in_group k (suc iota) (meant before s) ss) (all_constants iota (meant before s)) (all_group (suc iota) (meant before s) ss)
 
-  all_results : (all : List Name) (at : ℕ) (e : Expr) (ns : List Name) → Objects n (result_objects k all at e ns)
+  all_results : (all : List Name) (at : ℕ) (e : Expression) (ns : List Name) → Objects n (result_objects k all at e ns)
   all_results all at e [] = tt
   all_results all at e (x ∷ ns) = (lt, all_results all (suc at) e ns)
 
-  all_uncounted : (ns : List Name) (es : Exprs) → Objects n (uncounted k ns es)
+  all_uncounted : (ns : List Name) (es : ExpressionList) → Objects n (uncounted k ns es)
   all_uncounted ns no_exprs = all_unpaired None no_exprs ns
   all_uncounted ns (some_exprs e no_exprs) = all_results ns 0 e ns
   all_uncounted ns (some_exprs e (some_exprs f es)) = all_unpaired None (some_exprs e (some_exprs f es)) ns
@@ -95,7 +95,7 @@ module _ (n k : ℕ) (lt : k < n) where
   all_in (declared (types p ss)) = all_mapped number n (type_object k) (λ s. lt) ss
   all_in (function f) = by_name (bytes_eq f.name.text (codes "init")) (record { file = k; begins = f.name.place; name = f.name; form = function' f.parameters f.results }) lt
     where
-      by_name : (b : Bool) (o : Object) → o.file < n → Objects n (if b then [] else o ∷ [])
+      by_name : (b : Bool) (o : DeclaredObject) → o.file < n → Objects n (if b then [] else o ∷ [])
       by_name true o h = tt
       by_name false o h = (h, tt)
 
@@ -107,10 +107,10 @@ all_from n k (f ∷ fs) e =
 
 -- ---- faults
 
-abbrev Found : ℕ → Numbered → Type 0
+abbrev Found : ℕ → FileFaults → Type 0
 Found n xs = All (λ (x : ℕ × (Place × FaultKind)). x.0) n xs
 
-found_append : (n : ℕ) (xs ys : Numbered) → Found n xs → Found n ys → Found n (xs ++ ys)
+found_append : (n : ℕ) (xs ys : FileFaults) → Found n xs → Found n ys → Found n (xs ++ ys)
 found_append n xs ys h k = all_append (λ (x : ℕ × (Place × FaultKind)). x.0) n xs ys h k
 
 found_in : (n k : ℕ) → k < n → (xs : Faults) → Found n (map (λ x. (k, x)) xs)
@@ -122,7 +122,7 @@ found_each n faults k [] e = tt
 found_each n faults k (f ∷ fs) e =
     found_append n (map (λ x. (k, x)) (faults k f)) (each_file faults (suc k) fs) (found_in n k (omega (arith, e)) (faults k f)) (found_each n faults (suc k) fs (omega (arith, e)))
 
-found_constants : (n : ℕ) (t : Facts) (os : List Object) → Objects n os → Found n (flat_map (numbered_faults t) os)
+found_constants : (n : ℕ) (t : Facts) (os : List DeclaredObject) → Objects n os → Found n (flat_map (numbered_faults t) os)
 found_constants n t [] h = tt
 found_constants n t (o ∷ os) h =
     found_append n (numbered_faults t o) (flat_map (numbered_faults t) os) (found_in n o.file h.0 (object_faults t o)) (found_constants n t os h.1)
@@ -137,16 +137,16 @@ found_absent n t clause lt = by_main (bytes_eq clause.text (codes "main") && not
 found_main : (t : Facts) (files : List File) → Found (length files) (main_faults t files)
 found_main t [] = tt
 found_main t (f ∷ fs) =
-    found_append (length (f ∷ fs)) _ (absent_main_faults t f.package) (found_each (length (f ∷ fs)) (λ k file. flat_map (names_faults f.package.text) file.declarations) 0 (f ∷ fs) (omega arith))
+    found_append (length (f ∷ fs)) _ (absent_main_faults t f.package) (found_each (length (f ∷ fs)) (λ k file. flat_map (reserved_names_faults f.package.text) file.declarations) 0 (f ∷ fs) (omega arith))
     (found_absent (length (f ∷ fs)) t f.package (omega arith))
 
 found_all : (ps : List Importable) (t : Facts) (files : List File) → Found (length files) (package_faults ps t files)
 found_all ps t files =
     found_append (length files) (each_file (file_faults ps t) 0 files) _ (found_each (length files) (file_faults ps t) 0 files (omega arith))
-    (found_append (length files) (constants_faults t files) (main_faults t files)
+    (found_append (length files) (objects_faults t files) (main_faults t files)
     (found_constants (length files) t (objects_from 0 files) (all_from (length files) 0 files (omega arith))) (found_main t files))
 
-first_found : (n : ℕ) (xs : Numbered) (x : ℕ × (Place × FaultKind)) → Found n xs → slice_get xs 0 ≡ Some x → x.0 < n
+first_found : (n : ℕ) (xs : FileFaults) (x : ℕ × (Place × FaultKind)) → Found n xs → slice_get xs 0 ≡ Some x → x.0 < n
 first_found n [] x h e = cc
 first_found n (y ∷ ys) x h e =
     let same : y ≡ x = cc in

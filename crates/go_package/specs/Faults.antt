@@ -4,7 +4,7 @@ use Rattle.std.specs.List.{slice_get, flat_map, list_any}
 use Rattle.go_text.specs.declared.place.Place.{Place}
 use Rattle.go_text.specs.declared.fault.FaultKind.{FaultKind}
 use Rattle.go_text.specs.declared.fault.FaultKind.TheVariants.{Redeclared, Recursive}
-use Rattle.go_ast.specs.Trees.{Name, TypeExpr, Expr, no_exprs, ConstSpec, VarSpec, TypeSpec, constants, variables, types, Function, TopLevel, declared, function, File}
+use Rattle.go_ast.specs.Trees.{Name, TypeExpr, Expression, no_exprs, ConstSpec, VarSpec, TypeSpec, constants, variables, types, FunctionDecl, TopLevel, declared, function, File}
 use Rattle.ws_reach.specs.Worklist.{is_marked}
 use Rattle.go_types.specs.Types.{Type'}
 use Rattle.go_typed.specs.Trees.{Expr as Typed}
@@ -12,19 +12,19 @@ use Rattle.go_scope.specs.Names.{Used, in_exprs}
 use Rattle.go_scope.specs.Order.{DependsOnItself}
 use Rattle.go_expr.specs.Known.{Names, Verdict, Fine, Scope}
 use Rattle.go_expr.specs.Rules.{fine, checked, constant_due, assigned, defaulted}
-use Rattle.go_expr.specs.Verdicts.{asked, both, asked_both, operand, verdict, broken, operands, type_verdict, operand_broken, faults, type_faults, operands_faults}
+use Rattle.go_expr.specs.Verdicts.{asked, both, asked_both, operand, verdict, broken, operand_list, type_verdict, operand_broken, faults, type_faults, operands_faults}
 use Rattle.go_stmt.specs.Scopes.{Context}
-use Rattle.go_stmt.specs.Rules.{Values, constants_of, variables_source}
+use Rattle.go_stmt.specs.Rules.{AssignedValues, constants_verdict, variables_source}
 use Rattle.go_stmt.specs.Statements.{is_unknown, values_known, values_faults, first_fault, written_faults, least_at, repeated_faults}
 use Rattle.go_stmt.specs.Functions.{function_at}
 use Rattle.go_objects.specs.Objects as objects
 use Rattle.go_scope.specs.Specifications.{meant, is_repeated}
-use Rattle.go_objects.specs.Objects.{constant, valued_variable, Object, variables_of, type_object}
-use Rattle.go_objects.specs.Table.{Package, in_written, number_of, scope_at, object_verdict}
+use Rattle.go_objects.specs.Objects.{constant, valued_variable, DeclaredObject, variables_of, type_object}
+use Rattle.go_objects.specs.Table.{PackageTable, in_written, number_of, scope_at, object_verdict}
 
 -- a package, what is known of its objects, and of each object whether it depends on itself
 pub record Facts : Type 0 where
-  pub «package» : Package
+  pub «package» : PackageTable
   pub known : Names
   pub recursive : List Bool
 
@@ -43,7 +43,7 @@ Faults = List (Place × FaultKind)
 -- ---- names: https://go.dev/ref/spec#Declarations_and_scope
 
 -- an object is what this name of a file declares
-abbrev pub is_declared_by : ℕ → Name → Option Object → Bool
+abbrev pub is_declared_by : ℕ → Name → Option DeclaredObject → Bool
 is_declared_by file n None = false
 is_declared_by file n (Some o) = nat_eq file o.file && (nat_eq n.place.line o.name.place.line && nat_eq n.place.column o.name.place.column)
 
@@ -67,18 +67,18 @@ abbrev pub own_constant : Option Type' → Typed → Verdict Typed
 own_constant t e = checked (λ e. elim t [ None ↦ Fine e | Some t ↦ assigned t e ]) (constant_due e)
 
 -- the least fault of its type and its value, or its own
-abbrev pub constant_faults : Scope → Place → Option TypeExpr → Expr → Faults
+abbrev pub constant_faults : Scope → Place → Option TypeExpr → Expression → Faults
 constant_faults s p t e =
     least_at p (first_fault (written_faults s t) ++ first_fault (faults s e ++ operand_broken e (verdict s e)))
     ++ broken p (asked_both own_constant (written_type s t) (operand (verdict s e)))
 
 -- https://go.dev/ref/spec#Variable_declarations
 -- the value of a variable without a type lies in the type that it takes of it
-abbrev pub variable_faults : Scope → Place → Expr → Faults
+abbrev pub variable_faults : Scope → Place → Expression → Faults
 variable_faults s p e = broken p (asked defaulted (operand (verdict s e)))
 
 -- that of an object with a value of its own, where its specification begins
-abbrev pub object_faults : Facts → Object → Faults
+abbrev pub object_faults : Facts → DeclaredObject → Faults
 object_faults t o = elim o.form [
   | constant of e iota ↦ constant_faults (scope_at t.package t.known o.file (Some iota)) o.begins of e
   | valued_variable e ↦ variable_faults (scope_at t.package t.known o.file None) o.begins e
@@ -86,7 +86,7 @@ object_faults t o = elim o.form [
 ]
 
 -- an object is of the specification that begins at a place of a file
-abbrev pub is_of_spec : ℕ → Place → Option Object → Bool
+abbrev pub is_of_spec : ℕ → Place → Option DeclaredObject → Bool
 is_of_spec file p None = false
 is_of_spec file p (Some o) = nat_eq file o.file && (nat_eq p.line o.begins.line && nat_eq p.column o.begins.column)
 
@@ -98,7 +98,7 @@ hides t file p u = elim (number_of t.package.objects u.0) [
 ]
 
 -- A specification of which a part isn't known can't be asked as a whole. It is asked for each of its objects by itself, unless a name in it hides that.
-abbrev pub apart : Facts → ℕ → Place → Bool → List Used → List Object → Faults
+abbrev pub apart : Facts → ℕ → Place → Bool → List Used → List DeclaredObject → Faults
 apart t file p whole us os = if whole || list_any (hides t file p) us then [] else least_at p (flat_map (object_faults t) os)
 
 -- ---- constants: https://go.dev/ref/spec#Constant_declarations
@@ -117,21 +117,21 @@ parts_faults t file repeated p s spec =
 -- type that is written; or those of each constant by itself, where it can't be asked as a whole.
 abbrev pub constants_by : Facts → ℕ → ℕ → Place → ConstSpec → Option (Option Type') → Option (List Typed) → Faults
 constants_by t file iota p spec of values =
-    broken p (asked_both (constants_of spec.names) of values)
+    broken p (asked_both (constants_verdict spec.names) of values)
     ++ apart t file p (is_some (both of values)) (in_written spec.type ++ in_exprs spec.values) (objects.constants_of file iota spec)
 
 -- a specification by what it means: its names, then its type and its values, then itself, at its first name
-abbrev pub constants_faults : Facts → ℕ → ℕ → Bool → ConstSpec → Faults
-constants_faults t file iota repeated spec = elim spec.names [
+abbrev pub constant_spec_faults : Facts → ℕ → ℕ → Bool → ConstSpec → Faults
+constant_spec_faults t file iota repeated spec = elim spec.names [
   | [] ↦ []
   | first ∷ others ↦ (let s = scope_at t.package t.known file (Some iota) in
       flat_map (name_faults t file) spec.names ++ (parts_faults t file repeated first.place s spec
-      ++ constants_by t file iota first.place spec (written_type s spec.type) (operands s spec.values)))
+      ++ constants_by t file iota first.place spec (written_type s spec.type) (operand_list s spec.values)))
 ]
 
 abbrev pub group_faults : Facts → ℕ → ℕ → ConstSpec → List ConstSpec → Faults
 group_faults t file iota before [] = []
-group_faults t file iota before (s ∷ ss) = constants_faults t file iota (is_repeated s) (meant before s) ++ group_faults t file (suc iota) (meant before s) ss
+group_faults t file iota before (s ∷ ss) = constant_spec_faults t file iota (is_repeated s) (meant before s) ++ group_faults t file (suc iota) (meant before s) ss
 
 -- ---- other declarations
 
@@ -145,7 +145,7 @@ abbrev pub var_parts_faults : Scope → VarSpec → Faults
 var_parts_faults s spec = written_faults s spec.type ++ values_faults s spec.values
 
 -- the faults of a specification itself, by what is known of its type and its values, or those of each variable by itself, where it can't be asked as a whole
-abbrev pub variables_by : Facts → ℕ → Place → VarSpec → Option (Option Type') → Option Values → Faults
+abbrev pub variables_by : Facts → ℕ → Place → VarSpec → Option (Option Type') → Option AssignedValues → Faults
 variables_by t file p spec of values =
     broken p (asked_both (variables_source spec.names) of values)
     ++ apart t file p (is_some (both of values)) (in_written spec.type ++ in_exprs spec.values) (variables_of file spec)
@@ -177,7 +177,7 @@ abbrev pub own_faults : Facts → ℕ → Name → Faults
 own_faults t file n = if bytes_eq n.text (codes "init") then [] else name_faults t file n
 
 -- its name, then its parameters, its results and its body
-abbrev pub function_faults : Facts → ℕ → Function → Faults
+abbrev pub function_faults : Facts → ℕ → FunctionDecl → Faults
 function_faults t file f = own_faults t file f.name ++ (function_at (context_at t file) f).faults
 
 abbrev pub top_faults : Facts → ℕ → TopLevel → Faults

@@ -12,8 +12,8 @@ pub record Importable : Type 0 where
   pub exports : Names
 
 -- the path of each
-abbrev pub paths_of : List Importable → List (List ℕ)
-paths_of ps = map (λ (p : Importable). p.path) ps
+abbrev pub importable_paths : List Importable → List (List ℕ)
+importable_paths ps = map (λ (p : Importable). p.path) ps
 
 -- the first package of a path
 abbrev pub package_at : List Importable → List ℕ → Option Importable
@@ -27,12 +27,12 @@ import_name given clause = elim given [ None ↦ clause | Some n ↦ n.text ]
 abbrev pub named_import : Place → List ℕ → Names → Option (Place × (List ℕ × Names))
 named_import p x exports = if bytes_eq x (codes "_") then None else Some (p, (x, exports))
 
-abbrev pub declared_by : List Importable → ImportSpec → Option (Place × (List ℕ × Names))
-declared_by ps spec = elim (package_at ps spec.path) [ None ↦ None | Some p ↦ named_import spec.place (import_name spec.name p.name) p.exports ]
+abbrev pub import_declares : List Importable → ImportSpec → Option (Place × (List ℕ × Names))
+import_declares ps spec = elim (package_at ps spec.path) [ None ↦ None | Some p ↦ named_import spec.place (import_name spec.name p.name) p.exports ]
 
 -- of one file, and of each
 abbrev pub imports_in : List Importable → List ImportSpec → List (Place × (List ℕ × Names))
-imports_in ps specs = filter_map (declared_by ps) specs
+imports_in ps specs = filter_map (import_declares ps) specs
 
 abbrev pub imports_of : List Importable → List File → List (List (List ℕ × Names))
 imports_of ps files = map (λ (f : File). map (λ i. i.1) (imports_in ps f.imports)) files

@@ -2,6 +2,6 @@ pub mod Claims
 pub mod Faults
 pub mod Imports
 pub mod Packages
-pub mod Seen
-pub mod Told
+pub mod Results
 pub mod Typed
+pub mod Views

@@ -5,7 +5,7 @@ use Rattle.std.specs.List.{slice_get, filter, filter_map, flat_map}
 use Rattle.std.specs.Map.{lookup}
 use Rattle.go_text.specs.declared.edition.Edition.{Edition}
 use Rattle.go_text.specs.declared.place.Place.{Place}
-use Rattle.go_ast.specs.Trees.{Name, Expr, Exprs, some_exprs, VarSpec, variables, TopLevel, declared, function, File}
+use Rattle.go_ast.specs.Trees.{Name, Expression, ExpressionList, some_exprs, VarSpec, variables, TopLevel, declared, function, File}
 use Rattle.go_const.specs.declared.constant.Const.{Const}
 use Rattle.go_types.specs.Types.{Type'}
 use Rattle.go_typed.specs.Trees as typed
@@ -20,22 +20,22 @@ use Rattle.go_expr.specs.Verdicts.{asked_both}
 use Rattle.go_stmt.specs.Rules.{variables_source}
 use Rattle.go_stmt.specs.Statements.{values_known}
 use Rattle.go_stmt.specs.Functions.{function_at}
-use Rattle.go_objects.specs.Objects.{Object}
-use Rattle.go_objects.specs.Table.{Package, imports_at, is_hidden, scope_at}
+use Rattle.go_objects.specs.Objects.{DeclaredObject}
+use Rattle.go_objects.specs.Table.{PackageTable, imports_at, is_hidden, scope_at}
 use Rattle.go_package.specs.Faults.{Facts, written_type, context_at}
 use Rattle.go_package.specs.Imports.{Importable}
 use Rattle.go_package.specs.Packages.{AreFacts, package_faults, package_in}
 
 -- ---- names of the package, in declaration order
 
-abbrev pub constant_in : List ℕ × Option Declared → Option (List ℕ × (Type' × Const))
-constant_in n = elim n.1 [ Some (value (typed.constant t c)) ↦ Some (n.0, (t, c)) | _ ↦ None ]
+abbrev pub exported_constant : List ℕ × Option Declared → Option (List ℕ × (Type' × Const))
+exported_constant n = elim n.1 [ Some (value (typed.constant t c)) ↦ Some (n.0, (t, c)) | _ ↦ None ]
 
 abbrev pub type_in : List ℕ × Option Declared → Option (List ℕ × Type')
 type_in n = elim n.1 [ Some (type' t) ↦ Some (n.0, t) | _ ↦ None ]
 
 abbrev pub constants_in : Names → List (List ℕ × (Type' × Const))
-constants_in names = filter_map constant_in names
+constants_in names = filter_map exported_constant names
 
 abbrev pub types_in : Names → List (List ℕ × Type')
 types_in names = filter_map type_in names
@@ -45,17 +45,17 @@ abbrev pub declared_at : Names → List ℕ → Option Declared
 declared_at names x = unwrap_or (lookup (bytes_eq x) names) None
 
 -- of the names of files the one at a number
-abbrev pub file_name : List (List ℕ) → ℕ → List ℕ
-file_name names file = unwrap_or (slice_get names file) []
+abbrev pub file_name_at : List (List ℕ) → ℕ → List ℕ
+file_name_at names file = unwrap_or (slice_get names file) []
 
-abbrev pub variable_in : List (List ℕ) → Object → Option Declared → Option typed.Variable
+abbrev pub variable_in : List (List ℕ) → DeclaredObject → Option Declared → Option typed.Variable
 variable_in files o d = elim d [
-  | Some (value (typed.global t x)) ↦ Some (record { name = o.name.text; of = t; file = file_name files o.file; place = o.name.place })
+  | Some (value (typed.global t x)) ↦ Some (record { name = o.name.text; of = t; file = file_name_at files o.file; place = o.name.place })
   | _ ↦ None
 ]
 
-abbrev pub variables_in : List (List ℕ) → Names → List Object → List typed.Variable
-variables_in files names os = filter_map (λ (o : Object). variable_in files o (declared_at names o.name.text)) os
+abbrev pub variables_in : List (List ℕ) → Names → List DeclaredObject → List typed.Variable
+variables_in files names os = filter_map (λ (o : DeclaredObject). variable_in files o (declared_at names o.name.text)) os
 
 -- ---- https://go.dev/ref/spec#Package_initialization
 
@@ -77,31 +77,31 @@ abbrev pub spec_place : List Name → Place
 spec_place ns = elim ns [ [] ↦ record { line = 1; column = 1 } | n ∷ ns ↦ n.place ]
 
 -- a variable that has its own value
-abbrev pub alone : Facts → List (List ℕ) → ℕ → Name → Expr → typed.Expr → typed.Initialization
+abbrev pub alone : Facts → List (List ℕ) → ℕ → Name → Expression → typed.Expr → typed.Initialization
 alone t names file n v e = record {
   variables = own_name n ∷ [];
-  file = file_name names file;
+  file = file_name_at names file;
   place = n.place;
   source = typed.each (pack_exprs (e ∷ []));
   references = references t file (in_expr false v);
 }
 
-abbrev pub each_alone : Facts → List (List ℕ) → ℕ → List Name → Exprs → typed.Exprs → List typed.Initialization
+abbrev pub each_alone : Facts → List (List ℕ) → ℕ → List Name → ExpressionList → typed.Exprs → List typed.Initialization
 each_alone t names file (n ∷ ns) (some_exprs v vs) (typed.some_exprs e es) = alone t names file n v e ∷ each_alone t names file ns vs es
 each_alone t names file ns vs es = []
 
 -- variables that one call gives values
-abbrev pub together : Facts → List (List ℕ) → ℕ → VarSpec → typed.Source → typed.Initialization
+abbrev pub together : Facts → List (List ℕ) → ℕ → VarSpec → typed.ValueSource → typed.Initialization
 together t names file spec source = record {
   variables = map own_name spec.names;
-  file = file_name names file;
+  file = file_name_at names file;
   place = spec_place spec.names;
   source = source;
   references = references t file (in_exprs spec.values);
 }
 
 -- those without a value are zero
-abbrev pub initializations_by : Facts → List (List ℕ) → ℕ → VarSpec → Option typed.Source → List typed.Initialization
+abbrev pub initializations_by : Facts → List (List ℕ) → ℕ → VarSpec → Option typed.ValueSource → List typed.Initialization
 initializations_by t names file spec source = elim source [
   | Some (typed.each es) ↦ each_alone t names file spec.names spec.values es
   | Some (typed.results ts f es) ↦ together t names file spec (typed.results ts f es) ∷ []
@@ -159,7 +159,7 @@ typed_package edition t names files = record {
 }
 
 -- the typed package that some files of an edition are, which have no fault
-pub record IsTypedIn (edition : Edition) (p : Package) (files : List File) (ps : List Importable) (names : List (List ℕ)) (t : typed.Package) : Type 0 where
+pub record IsTypedIn (edition : Edition) (p : PackageTable) (files : List File) (ps : List Importable) (names : List (List ℕ)) (t : typed.Package) : Type 0 where
   pub facts : Facts
   pub are : AreFacts p facts
   pub none : package_faults ps facts files ≡ []

@@ -3,18 +3,18 @@ ghost use Rattle.std.specs.Prelude.{◌≡◌, ◌≢◌, ◌++◌, [], map, fal
 ghost use Rattle.std.specs.List.{flat_map, list_any, slice_get};
 ghost use Rattle.std.specs.Option.{option_map};
 ghost use Rattle.go_ast.specs.Views.{expr_of as expr_tree, type_of as type_tree};
-ghost use Rattle.go_types.specs.Views.{type_of};
-ghost use Rattle.go_typed.specs.Views.{expr_of};
+ghost use Rattle.go_types.specs.Views.{go_type};
+ghost use Rattle.go_typed.specs.Views.{as_expr};
 ghost use Rattle.go_scope.specs.Names.{used, in_exprs};
 ghost use Rattle.go_expr.specs.Rules.{least, defaulted};
-ghost use Rattle.go_expr.specs.Seen.{scope_of, names_of, Gives};
+ghost use Rattle.go_expr.specs.Views.{scope_of, names_of, Gives};
 ghost use Rattle.go_expr.specs.Verdicts.{asked_both, operand, verdict, broken, operand_broken, faults};
 ghost use Rattle.go_objects.specs.Packages.{package_of};
-ghost use Rattle.go_objects.specs.Seen.{object_of, spec_of};
+ghost use Rattle.go_objects.specs.Views.{object_view, spec_of};
 ghost use Rattle.go_objects.specs.Table.{in_written};
 ghost use Rattle.go_package.specs.Faults.{is_known, written_type, own_constant, constant_faults, variable_faults, object_faults, is_of_spec, hides, hides_repeated, apart};
 ghost use Rattle.go_stmt.specs.Statements.{written_faults, least_at};
-ghost use Rattle.go_package.specs.Seen.{facts_of, Finds};
+ghost use Rattle.go_package.specs.Views.{facts_of, Finds};
 
 use crate::facts::Facts;
 use crate::variables::check_written;
@@ -49,7 +49,7 @@ pub(crate) fn check_apart(
     spec: Spec<'_>,
     objects: &[Object<'_>],
 ) -> Result<(), ExprError>
-    ensures { Finds result (apart (facts_of facts.now) file place false (in_written (spec_of spec.entry).type ++ in_exprs (spec_of spec.entry).values) (map object_of objects.now)) }
+    ensures { Finds result (apart (facts_of facts.now) file place false (in_written (spec_of spec.entry).type ++ in_exprs (spec_of spec.entry).values) (map object_view objects.now)) }
 {
     let names = spec_names(alloc, spec)?;
     if is_hidden(facts, file, place, &names) {
@@ -144,7 +144,7 @@ fn check_least(
     place: Place,
     objects: &[Object<'_>],
 ) -> Result<(), ExprError>
-    ensures { Finds result (least_at place (flat_map (object_faults (facts_of facts.now)) (map object_of objects.now))) }
+    ensures { Finds result (least_at place (flat_map (object_faults (facts_of facts.now)) (map object_view objects.now))) }
 {
     match least_of(alloc, facts, objects)? {
         Some(kind) => Err(ExprError::Faulty(place, kind)),
@@ -157,7 +157,7 @@ fn least_of(
     facts: &Facts<'_>,
     objects: &[Object<'_>],
 ) -> Result<Option<FaultKind>, AllocError>
-    ensures { IfOk result (λ kind. kind ≡ least (map (λ f. f.1) (flat_map (object_faults (facts_of facts.now)) (map object_of objects.now)))) }
+    ensures { IfOk result (λ kind. kind ≡ least (map (λ f. f.1) (flat_map (object_faults (facts_of facts.now)) (map object_view objects.now)))) }
 {
     let mut least = None;
     for object in objects {
@@ -172,7 +172,7 @@ fn own_fault(
     facts: &Facts<'_>,
     object: &Object<'_>,
 ) -> Result<Option<FaultKind>, AllocError>
-    ensures { IfOk result (λ kind. kind ≡ least (map (λ f. f.1) (object_faults (facts_of facts.now) (object_of object.now)))) }
+    ensures { IfOk result (λ kind. kind ≡ least (map (λ f. f.1) (object_faults (facts_of facts.now) (object_view object.now)))) }
 {
     match check_object(alloc, facts, object) {
         Ok(()) => Ok(None),
@@ -188,7 +188,7 @@ pub(crate) fn check_object(
     facts: &Facts<'_>,
     object: &Object<'_>,
 ) -> Result<(), ExprError>
-    ensures { Finds result (object_faults (facts_of facts.now) (object_of object.now)) }
+    ensures { Finds result (object_faults (facts_of facts.now) (object_view object.now)) }
 {
     match object.form {
         Form::Constant {
@@ -240,8 +240,8 @@ fn check_own(
 ) -> Result<Own, ExprError>
     ensures faults { let s = scope_of scope.now in let e = expr_tree value.now in
         Finds result (written_faults s (option_map (λ t. type_tree t.now) type_expr.entry) ++ (faults s e ++ operand_broken e (verdict s e))) }
-    ensures of { IfOk result (λ own. option_map (option_map type_of) own.of ≡ written_type (scope_of scope.now) (option_map (λ t. type_tree t.now) type_expr.entry)) }
-    ensures value { IfOk result (λ own. option_map expr_of own.value ≡ operand (verdict (scope_of scope.now) (expr_tree value.now))) }
+    ensures of { IfOk result (λ own. option_map (option_map go_type) own.of ≡ written_type (scope_of scope.now) (option_map (λ t. type_tree t.now) type_expr.entry)) }
+    ensures value { IfOk result (λ own. option_map as_expr own.value ≡ operand (verdict (scope_of scope.now) (expr_tree value.now))) }
 {
     let of = check_written(alloc, scope, type_expr)?;
     let value = check_operand(alloc, scope, value)?;
@@ -273,7 +273,7 @@ fn check_parts(
     of: Option<Option<GoType>>,
     value: Option<TypedExpr>,
 ) -> Result<(), ExprError>
-    ensures { Finds result (broken place (asked_both own_constant (option_map (option_map type_of) of) (option_map expr_of value))) }
+    ensures { Finds result (broken place (asked_both own_constant (option_map (option_map go_type) of) (option_map as_expr value))) }
 {
     let (Some(of), Some(value)) = (of, value) else {
         return Ok(());
@@ -287,7 +287,7 @@ fn check_parts(
 // A constant as one of the type that is written. `Mismatch` where it isn't constant, then `Assign`
 // where it isn't assignable, and `Range`.
 fn own_constant(alloc: Global, of: Option<GoType>, value: TypedExpr) -> Result<TypedExpr, RuleError>
-    ensures { Gives expr_of result (own_constant (option_map type_of of) (expr_of value)) }
+    ensures { Gives as_expr result (own_constant (option_map go_type of) (as_expr value)) }
 {
     if constant_in(&value).is_none() {
         return Err(RuleError::Broken(FaultKind::Mismatch));

@@ -2,13 +2,13 @@
 ghost use Rattle.std.specs.Prelude.{◌≡◌, ◌++◌, map, IfOk, OnOk};
 ghost use Rattle.std.specs.List.{flat_map};
 ghost use Rattle.go_ast.specs.Views.{file_of};
-ghost use Rattle.go_package.specs.Seen.{facts_of, Finds, FailsIn, FindsIn, importables_of, files_of, texts_of, initial_in, uses_in, functions_in};
+ghost use Rattle.go_package.specs.Views.{facts_of, Finds, FailsIn, FindsIn, importables_of, files_of, texts_in, initial_in, uses_in, functions_in};
 ghost use Rattle.go_package.specs.Typed.{top_initializations, top_uses, top_functions, of_files};
-ghost use Rattle.go_package.specs.Told.{in_file};
+ghost use Rattle.go_package.specs.Results.{in_file};
 ghost use Rattle.go_package.specs.Faults.{Faults};
 ghost use Rattle.go_objects.specs.Packages.{package_of};
-ghost use Rattle.go_package.specs.Packages.{package_in, file_faults, names_faults, each_file, absent_main_faults, main_faults, package_faults};
-ghost use Rattle.go_expr.specs.Seen.{Fails};
+ghost use Rattle.go_package.specs.Packages.{package_in, file_faults, reserved_names_faults, each_file, absent_main_faults, main_faults, package_faults};
+ghost use Rattle.go_expr.specs.Views.{Fails};
 
 use crate::bodies::Bodies;
 use crate::error::DeclError;
@@ -54,7 +54,7 @@ pub(crate) fn check_facts<'a>(
 ) -> Result<Bodies, DeclError>
     ensures faults { FindsIn result (package_faults (importables_of packages.now.all.now) (facts_of facts.now) (files_of files.now)) }
     ensures initializations { IfOk result (λ bodies. initial_in bodies
-        ≡ of_files (top_initializations (facts_of facts.now) (texts_of names.now)) 0 (files_of files.now)) }
+        ≡ of_files (top_initializations (facts_of facts.now) (texts_in names.now)) 0 (files_of files.now)) }
     ensures uses { IfOk result (λ bodies. uses_in bodies ≡ of_files (top_uses (facts_of facts.now)) 0 (files_of files.now)) }
     ensures functions { IfOk result (λ bodies. functions_in bodies ≡ of_files (top_functions (facts_of facts.now)) 0 (files_of files.now)) }
 {
@@ -73,7 +73,7 @@ fn check_files<'a>(
 ) -> Result<Bodies, DeclError>
     ensures faults { FindsIn result (each_file (file_faults (importables_of packages.now.all.now) (facts_of facts.now)) 0 (files_of files.now)) }
     ensures initializations { IfOk result (λ bodies. initial_in bodies
-        ≡ of_files (top_initializations (facts_of facts.now) (texts_of names.now)) 0 (files_of files.now)) }
+        ≡ of_files (top_initializations (facts_of facts.now) (texts_in names.now)) 0 (files_of files.now)) }
     ensures uses { IfOk result (λ bodies. uses_in bodies ≡ of_files (top_uses (facts_of facts.now)) 0 (files_of files.now)) }
     ensures functions { IfOk result (λ bodies. functions_in bodies ≡ of_files (top_functions (facts_of facts.now)) 0 (files_of files.now)) }
 {
@@ -100,7 +100,7 @@ fn check_numbered<'a>(
 ) -> Result<(), DeclError>
     ensures faults { FindsIn result (map (λ x. (number, x)) (file_faults (importables_of packages.now.all.now) (facts_of facts.now) number (file_of file.now))) }
     ensures initializations { OnOk result (initial_in bodies.new ≡ initial_in bodies.old
-        ++ in_file (top_initializations (facts_of facts.now) (texts_of names.now)) number (file_of file.now)) }
+        ++ in_file (top_initializations (facts_of facts.now) (texts_in names.now)) number (file_of file.now)) }
     ensures uses { OnOk result (uses_in bodies.new ≡ uses_in bodies.old ++ in_file (top_uses (facts_of facts.now)) number (file_of file.now)) }
     ensures functions { OnOk result (functions_in bodies.new ≡ functions_in bodies.old ++ in_file (top_functions (facts_of facts.now)) number (file_of file.now)) }
 {
@@ -111,7 +111,7 @@ fn check_numbered<'a>(
 }
 
 fn check_reserved_in(clause: &str, number: usize, file: &File) -> Result<(), DeclError>
-    ensures { FindsIn result (map (λ x. (number, x)) (flat_map (names_faults clause.now) (file_of file.now).declarations)) }
+    ensures { FindsIn result (map (λ x. (number, x)) (flat_map (reserved_names_faults clause.now) (file_of file.now).declarations)) }
 {
     numbered(number, check_reserved(clause, file))
 }
@@ -159,7 +159,7 @@ fn check_has_main(facts: &Facts<'_>, clause: &Name) -> Result<(), DeclError>
 }
 
 fn check_all_reserved(clause: &str, files: &[&File]) -> Result<(), DeclError>
-    ensures { FindsIn result (each_file (λ number file. flat_map (names_faults clause.now) file.declarations) 0 (files_of files.now)) }
+    ensures { FindsIn result (each_file (λ number file. flat_map (reserved_names_faults clause.now) file.declarations) 0 (files_of files.now)) }
 {
     for (number, file) in files.iter().enumerate() {
         check_reserved_in(clause, number, *file)?;

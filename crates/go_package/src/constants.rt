@@ -3,16 +3,16 @@ ghost use Rattle.std.specs.Prelude.{◌≡◌, ◌≢◌, ◌++◌, ℕ, [], tru
 ghost use Rattle.std.specs.Option.{option_map};
 ghost use Rattle.go_ast.specs.Trees.{no_exprs};
 ghost use Rattle.go_ast.specs.Views.{const_of};
-ghost use Rattle.go_types.specs.Views.{type_of};
-ghost use Rattle.go_typed.specs.Views.{expr_of};
-ghost use Rattle.go_expr.specs.Verdicts.{both, asked_both, broken, operands, operands_faults};
-ghost use Rattle.go_expr.specs.Seen.{scope_of, all_of, Fails};
-ghost use Rattle.go_stmt.specs.Rules.{constants_of};
+ghost use Rattle.go_types.specs.Views.{go_type};
+ghost use Rattle.go_typed.specs.Views.{as_expr};
+ghost use Rattle.go_expr.specs.Verdicts.{both, asked_both, broken, operand_list, operands_faults};
+ghost use Rattle.go_expr.specs.Views.{scope_of, all_of, Fails};
+ghost use Rattle.go_stmt.specs.Rules.{constants_verdict};
 ghost use Rattle.go_stmt.specs.Statements.{written_faults};
 ghost use Rattle.go_objects.specs.Objects as objects;
-ghost use Rattle.go_objects.specs.Seen.{spec_of};
-ghost use Rattle.go_package.specs.Faults.{written_type, parts_faults, constants_by, constants_faults, group_faults};
-ghost use Rattle.go_package.specs.Seen.{facts_of, Finds};
+ghost use Rattle.go_objects.specs.Views.{spec_of};
+ghost use Rattle.go_package.specs.Faults.{written_type, parts_faults, constants_by, constant_spec_faults, group_faults};
+ghost use Rattle.go_package.specs.Views.{facts_of, Finds};
 
 use crate::apart::{check_apart, hides_repeated};
 use crate::declared::check_names;
@@ -41,7 +41,7 @@ struct Parts {
 
 impl Parts {
     fn are_known(&self) -> bool
-        ensures { result ≡ is_some (both (option_map (option_map type_of) self.now.of) (option_map (all_of expr_of) self.now.values)) }
+        ensures { result ≡ is_some (both (option_map (option_map go_type) self.now.of) (option_map (all_of as_expr) self.now.values)) }
     {
         self.of.is_some() && self.values.is_some()
     }
@@ -80,7 +80,7 @@ fn check_constants(
     repeated: bool,
     spec: Spec<'_>,
 ) -> Result<(), ExprError>
-    ensures { Finds result (constants_faults (facts_of facts.now) file iota repeated (spec_of spec.entry)) }
+    ensures { Finds result (constant_spec_faults (facts_of facts.now) file iota repeated (spec_of spec.entry)) }
 {
     let Some(first) = spec.names.first() else {
         return Ok(());
@@ -117,7 +117,7 @@ fn check_faulty(
 ) -> Result<(), ExprError>
     ensures { (iota : ℕ) → let t = facts_of facts.now in let s = scope_of scope.now in let c = spec_of spec.entry in
         Fails error (written_faults s c.type ++ operands_faults s c.values) →
-        Finds result (parts_faults t file repeated place s c ++ constants_by t file iota place c (written_type s c.type) (operands s c.values)) }
+        Finds result (parts_faults t file repeated place s c ++ constants_by t file iota place c (written_type s c.type) (operand_list s c.values)) }
 {
     if repeated {
         check_repeated(alloc, facts, file, scope, place, spec, error)
@@ -139,7 +139,7 @@ fn check_repeated(
 ) -> Result<(), ExprError>
     ensures { (iota : ℕ) → let t = facts_of facts.now in let s = scope_of scope.now in let c = spec_of spec.entry in
         Fails error (written_faults s c.type ++ operands_faults s c.values) →
-        Finds result (parts_faults t file true place s c ++ constants_by t file iota place c (written_type s c.type) (operands s c.values)) }
+        Finds result (parts_faults t file true place s c ++ constants_by t file iota place c (written_type s c.type) (operand_list s c.values)) }
 {
     match error {
         ExprError::Memory => Err(ExprError::Memory),
@@ -157,7 +157,7 @@ fn told_repeated(
 ) -> Result<(), ExprError>
     ensures { (iota : ℕ) → let t = facts_of facts.now in let s = scope_of scope.now in let c = spec_of spec.entry in
         written_faults s c.type ++ operands_faults s c.values ≢ [] →
-        Finds result (parts_faults t file true place s c ++ constants_by t file iota place c (written_type s c.type) (operands s c.values)) }
+        Finds result (parts_faults t file true place s c ++ constants_by t file iota place c (written_type s c.type) (operand_list s c.values)) }
 {
     let hidden = hides_repeated(alloc, facts, file, scope, place, spec)?;
     if hidden {
@@ -181,7 +181,7 @@ fn check_whole(
     parts: Parts,
 ) -> Result<(), ExprError>
     ensures { Finds result (constants_by (facts_of facts.now) file iota place (spec_of spec.entry)
-        (option_map (option_map type_of) parts.of) (option_map (all_of expr_of) parts.values)) }
+        (option_map (option_map go_type) parts.of) (option_map (all_of as_expr) parts.values)) }
 {
     if parts.are_known() {
         return check_spec(alloc, place, spec.names, parts);
@@ -194,8 +194,8 @@ fn check_whole(
 fn check_parts(alloc: Global, scope: &Scope<'_>, spec: Spec<'_>) -> Result<Parts, ExprError>
     ensures faults { let s = scope_of scope.now in
         Finds result (written_faults s (spec_of spec.entry).type ++ operands_faults s (spec_of spec.entry).values) }
-    ensures of { IfOk result (λ parts. option_map (option_map type_of) parts.of ≡ written_type (scope_of scope.now) (spec_of spec.entry).type) }
-    ensures values { IfOk result (λ parts. option_map (all_of expr_of) parts.values ≡ operands (scope_of scope.now) (spec_of spec.entry).values) }
+    ensures of { IfOk result (λ parts. option_map (option_map go_type) parts.of ≡ written_type (scope_of scope.now) (spec_of spec.entry).type) }
+    ensures values { IfOk result (λ parts. option_map (all_of as_expr) parts.values ≡ operand_list (scope_of scope.now) (spec_of spec.entry).values) }
 {
     let of = check_written(alloc, scope, spec.type_expr)?;
     let values = check_operands(alloc, scope, spec.values)?;
@@ -207,7 +207,7 @@ fn check_parts(alloc: Global, scope: &Scope<'_>, spec: Spec<'_>) -> Result<Parts
 // `Assign` where one isn't assignable to the type.
 #[tactic(auto, using(crate::proofs::Parts::located, crate::proofs::Parts::unbroken))]
 fn check_spec(alloc: Global, place: Place, names: &[Name], parts: Parts) -> Result<(), ExprError>
-    ensures { Finds result (broken place (asked_both (constants_of names.now) (option_map (option_map type_of) parts.of) (option_map (all_of expr_of) parts.values))) }
+    ensures { Finds result (broken place (asked_both (constants_verdict names.now) (option_map (option_map go_type) parts.of) (option_map (all_of as_expr) parts.values))) }
 {
     let (Some(of), Some(values)) = (parts.of, parts.values) else {
         return Ok(());

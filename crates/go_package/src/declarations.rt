@@ -3,7 +3,7 @@ ghost use Rattle.std.specs.Prelude.{◌≡◌, ◌++◌, map, OnOk};
 ghost use Rattle.std.specs.List.{flat_map};
 ghost use Rattle.go_ast.specs.Views.{top_of};
 ghost use Rattle.go_package.specs.Faults.{top_faults};
-ghost use Rattle.go_package.specs.Seen.{facts_of, texts_of, initial_in, uses_in, functions_in, Finds};
+ghost use Rattle.go_package.specs.Views.{facts_of, texts_in, initial_in, uses_in, functions_in, Finds};
 ghost use Rattle.go_package.specs.Typed.{top_initializations, top_functions};
 
 use crate::bodies::Bodies;
@@ -28,7 +28,7 @@ fn check_top(
 ) -> Result<(), ExprError>
     ensures faults { Finds result (top_faults (facts_of facts.now) file (top_of top.now)) }
     ensures initializations { OnOk result (initial_in bodies.new ≡ initial_in bodies.old
-        ++ top_initializations (facts_of facts.now) (texts_of names.now) file (top_of top.now)) }
+        ++ top_initializations (facts_of facts.now) (texts_in names.now) file (top_of top.now)) }
     ensures uses { OnOk result (uses_in bodies.new ≡ uses_in bodies.old) }
     ensures functions { OnOk result (functions_in bodies.new ≡ functions_in bodies.old ++ top_functions (facts_of facts.now) file (top_of top.now)) }
 {
@@ -62,7 +62,7 @@ pub(crate) fn check_tops(
 ) -> Result<(), ExprError>
     ensures faults { Finds result (flat_map (top_faults (facts_of facts.now) file) (map top_of tops.now)) }
     ensures initializations { OnOk result (initial_in bodies.new ≡ initial_in bodies.old
-        ++ flat_map (top_initializations (facts_of facts.now) (texts_of names.now) file) (map top_of tops.now)) }
+        ++ flat_map (top_initializations (facts_of facts.now) (texts_in names.now) file) (map top_of tops.now)) }
     ensures uses { OnOk result (uses_in bodies.new ≡ uses_in bodies.old) }
     ensures functions { OnOk result (functions_in bodies.new ≡ functions_in bodies.old ++ flat_map (top_functions (facts_of facts.now) file) (map top_of tops.now)) }
 {

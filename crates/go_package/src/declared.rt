@@ -3,7 +3,7 @@ ghost use Rattle.std.specs.Prelude.{◌≡◌, slice_get};
 ghost use Rattle.std.specs.List.{flat_map};
 ghost use Rattle.go_objects.specs.Packages.{package_of};
 ghost use Rattle.go_package.specs.Faults.{is_declared_by, name_faults};
-ghost use Rattle.go_package.specs.Seen.{facts_of, Finds};
+ghost use Rattle.go_package.specs.Views.{facts_of, Finds};
 
 use crate::facts::Facts;
 use go_ast::name::Name;

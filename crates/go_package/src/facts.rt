@@ -3,11 +3,11 @@ ghost use Rattle.std.specs.Prelude.{◌≡◌, ◌↔◌, ℕ, IsTrue, IfOk};
 ghost use Rattle.std.specs.List.{Contains};
 ghost use Rattle.ws_reach.specs.Reach.{Edge, EdgesStayWithin, rows_of};
 ghost use Rattle.ws_reach.specs.Worklist.{is_marked};
-ghost use Rattle.go_expr.specs.Seen.{names_of};
+ghost use Rattle.go_expr.specs.Views.{names_of};
 ghost use Rattle.go_objects.specs.Table.{rows as rows_in};
 ghost use Rattle.go_objects.specs.Packages.{package_of};
 ghost use Rattle.go_package.specs.Faults.{AreRecursive};
-ghost use Rattle.go_package.specs.Seen.{facts_of};
+ghost use Rattle.go_package.specs.Views.{facts_of};
 
 use go_expr::known::Names;
 use go_objects::package::{Package, rows};
@@ -26,7 +26,7 @@ impl<'a> Facts<'a> {
     /// A package with what is known of its objects, of which those that depend on themselves are
     /// marked. An `Err` only where memory ran out.
     /// [Declarations and scope](https://go.dev/ref/spec#Declarations_and_scope)
-    #[tactic(auto, unfolding(crate::specs::Seen::facts_of))]
+    #[tactic(auto, unfolding(crate::specs::Views::facts_of))]
     pub(crate) fn new(
         alloc: Global,
         package: &'a Package<'a>,
@@ -46,7 +46,7 @@ impl<'a> Facts<'a> {
     }
 
     /// The package.
-    #[tactic(auto, unfolding(crate::specs::Seen::facts_of))]
+    #[tactic(auto, unfolding(crate::specs::Views::facts_of))]
     pub(crate) fn package(&self) -> &'a Package<'a>
         ensures { package_of result.now ≡ (facts_of self.now).package }
     {
@@ -54,7 +54,7 @@ impl<'a> Facts<'a> {
     }
 
     /// What is known of its objects.
-    #[tactic(auto, unfolding(crate::specs::Seen::facts_of))]
+    #[tactic(auto, unfolding(crate::specs::Views::facts_of))]
     pub(crate) fn known(&self) -> &'a Names
         ensures { names_of result.now ≡ (facts_of self.now).known }
     {
@@ -62,7 +62,7 @@ impl<'a> Facts<'a> {
     }
 
     /// Whether an object depends on itself.
-    #[tactic(auto, unfolding(crate::specs::Seen::facts_of))]
+    #[tactic(auto, unfolding(crate::specs::Views::facts_of))]
     pub(crate) fn is_recursive(&self, number: usize) -> bool
         ensures { result ≡ is_marked (facts_of self.now).recursive number }
     {

@@ -4,9 +4,9 @@ ghost use Rattle.std.specs.List.{filter, flat_map, list_any};
 ghost use Rattle.go_ast.specs.Trees as trees;
 ghost use Rattle.go_ast.specs.Views.{file_of};
 ghost use Rattle.go_uses.specs.Uses.{in_top, file_refers};
-ghost use Rattle.go_package.specs.Seen.{facts_of, texts_of, initial_in, uses_in, functions_in, Finds, importables_of};
+ghost use Rattle.go_package.specs.Views.{facts_of, texts_in, initial_in, uses_in, functions_in, Finds, importables_of};
 ghost use Rattle.go_package.specs.Typed.{top_initializations, top_uses, top_functions};
-ghost use Rattle.go_package.specs.Told.{in_file};
+ghost use Rattle.go_package.specs.Results.{in_file};
 ghost use Rattle.go_package.specs.Imports.{imports_in};
 ghost use Rattle.go_package.specs.Packages.{import_faults, imports_faults, file_faults};
 
@@ -35,7 +35,7 @@ pub(crate) fn check_file<'a>(
 ) -> Result<(), ExprError>
     ensures faults { Finds result (file_faults (importables_of packages.now.all.now) (facts_of facts.now) number (file_of file.now)) }
     ensures initializations { OnOk result (initial_in bodies.new ≡ initial_in bodies.old
-        ++ in_file (top_initializations (facts_of facts.now) (texts_of names.now)) number (file_of file.now)) }
+        ++ in_file (top_initializations (facts_of facts.now) (texts_in names.now)) number (file_of file.now)) }
     ensures uses { OnOk result (uses_in bodies.new ≡ uses_in bodies.old ++ in_file (top_uses (facts_of facts.now)) number (file_of file.now)) }
     ensures functions { OnOk result (functions_in bodies.new ≡ functions_in bodies.old ++ in_file (top_functions (facts_of facts.now)) number (file_of file.now)) }
 {

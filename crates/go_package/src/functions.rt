@@ -4,13 +4,13 @@ ghost use Rattle.std.specs.Prelude.{◌≡◌, ◌++◌, map, OnOk};
 ghost use Rattle.std.specs.Option.{option_map};
 ghost use Rattle.go_ast.specs.Trees as trees;
 ghost use Rattle.go_ast.specs.Views.{function_of};
-ghost use Rattle.go_typed.specs.Views.{function_of as typed_function};
-ghost use Rattle.go_stmt.specs.Seen.{Answered};
+ghost use Rattle.go_typed.specs.Views.{as_function as typed_function};
+ghost use Rattle.go_stmt.specs.Views.{Answered};
 ghost use Rattle.go_stmt.specs.Functions.{function_at};
 ghost use Rattle.go_package.specs.Faults.{own_faults, context_at, function_faults};
-ghost use Rattle.go_package.specs.Seen.{facts_of, Finds};
+ghost use Rattle.go_package.specs.Views.{facts_of, Finds};
 ghost use Rattle.go_package.specs.Typed.{top_functions};
-ghost use Rattle.go_package.specs.Told.{kept};
+ghost use Rattle.go_package.specs.Results.{kept};
 
 use crate::declared::check_name;
 use crate::facts::Facts;

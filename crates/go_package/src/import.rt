@@ -2,9 +2,9 @@
 ghost use Rattle.std.specs.Prelude.{◌≡◌, map, unwrap_or, IfOk};
 ghost use Rattle.std.specs.Option.{option_map};
 ghost use Rattle.go_ast.specs.Views.{import_of};
-ghost use Rattle.go_objects.specs.Packages.{imports_of as imports_seen};
-ghost use Rattle.go_package.specs.Imports.{paths_of, package_at, declared_by, imports_in, imports_of};
-ghost use Rattle.go_package.specs.Seen.{importable_of, importables_of, imported_of, files_of};
+ghost use Rattle.go_objects.specs.Packages.{declared_imports as imports_seen};
+ghost use Rattle.go_package.specs.Imports.{importable_paths, package_at, import_declares, imports_in, imports_of};
+ghost use Rattle.go_package.specs.Views.{importable_view, importables_of, imported_of, files_of};
 
 use go_ast::file::{File, ImportSpec};
 use go_expr::known::Names;
@@ -37,7 +37,7 @@ const FEW: usize = 16;
 
 // The paths of packages, in their order. An `Err` only where memory ran out.
 fn paths_of<'a>(alloc: Global, packages: &[Importable<'a>]) -> Result<NameIndex<'a>, AllocError>
-    ensures { IfOk result (λ paths. paths ≡ paths_of (importables_of packages.now)) }
+    ensures { IfOk result (λ paths. paths ≡ importable_paths (importables_of packages.now)) }
 {
     let mut paths = NameIndex::new(alloc);
     for package in packages {
@@ -52,8 +52,8 @@ fn package_by<'a>(
     paths: &NameIndex<'_>,
     path: &str,
 ) -> Option<Importable<'a>>
-    requires { paths.now ≡ paths_of (importables_of packages.now) }
-    ensures { option_map importable_of result ≡ package_at (importables_of packages.now) path.now }
+    requires { paths.now ≡ importable_paths (importables_of packages.now) }
+    ensures { option_map importable_view result ≡ package_at (importables_of packages.now) path.now }
 {
     let Some(number) = paths.get(path) else {
         return None;
@@ -66,7 +66,7 @@ fn package_by<'a>(
 
 // The first package of a path, by a walk.
 fn walked<'a>(packages: &[Importable<'a>], path: &[u8]) -> Option<Importable<'a>>
-    ensures { option_map importable_of result ≡ package_at (importables_of packages.now) path.now }
+    ensures { option_map importable_view result ≡ package_at (importables_of packages.now) path.now }
 {
     for package in packages {
         if path == package.path.as_bytes() {
@@ -82,7 +82,7 @@ pub(crate) struct Packages<'p, 'a> {
     /// The packages, in their order.
     pub(crate) all: &'p [Importable<'a>],
     paths: Option<NameIndex<'a>>,
-    ghost named: { unwrap_or paths (paths_of (importables_of all.now)) ≡ paths_of (importables_of all.now) },
+    ghost named: { unwrap_or paths (importable_paths (importables_of all.now)) ≡ importable_paths (importables_of all.now) },
 }
 
 impl<'p, 'a> Packages<'p, 'a> {
@@ -108,7 +108,7 @@ impl<'p, 'a> Packages<'p, 'a> {
 
     // The first package of a path. One that isn't UTF-8 is that of none.
     fn at(&self, path: &[u8]) -> Option<Importable<'a>>
-        ensures { option_map importable_of result ≡ package_at (importables_of self.now.all.now) path.now }
+        ensures { option_map importable_view result ≡ package_at (importables_of self.now.all.now) path.now }
     {
         let Some(paths) = &self.paths else {
             return walked(self.all, path);
@@ -126,7 +126,7 @@ pub(crate) fn declared_by<'a>(
     packages: &Packages<'_, 'a>,
     spec: &'a ImportSpec,
 ) -> Option<Imported<'a>>
-    ensures { option_map imported_of result ≡ declared_by (importables_of packages.now.all.now) (import_of spec.now) }
+    ensures { option_map imported_of result ≡ import_declares (importables_of packages.now.all.now) (import_of spec.now) }
 {
     let Some(package) = packages.at(&spec.path) else {
         return None;

@@ -4,8 +4,8 @@ ghost use Rattle.std.specs.Prelude.{◌≡◌, ◌++◌, map, IfOk, OnOk, string
 ghost use Rattle.std.specs.Option.{option_map};
 ghost use Rattle.go_ast.specs.Views.{expr_of as expr_tree, var_of};
 ghost use Rattle.go_scope.specs.Names.{used};
-ghost use Rattle.go_typed.specs.Views.{expr_of, exprs_in, source_of, initialization_of};
-ghost use Rattle.go_package.specs.Seen.{facts_of, texts_of};
+ghost use Rattle.go_typed.specs.Views.{as_expr, as_exprs, as_source, initialization_of};
+ghost use Rattle.go_package.specs.Views.{facts_of, texts_in};
 ghost use Rattle.go_package.specs.Typed.{own_name, spec_place, references, alone, each_alone, together, initializations_by};
 
 use crate::facts::Facts;
@@ -62,7 +62,7 @@ fn alone(
     value: &Expr,
     typed: TypedExpr,
 ) -> Result<TypedInitialization, AllocError>
-    ensures { IfOk result (λ i. initialization_of i ≡ alone (facts_of facts.now) (texts_of names.now) file name.now (expr_tree value.now) (expr_of typed)) }
+    ensures { IfOk result (λ i. initialization_of i ≡ alone (facts_of facts.now) (texts_in names.now) file name.now (expr_tree value.now) (as_expr typed)) }
 {
     let mut used = Vec::new(alloc);
     add_names(value, &mut used)?;
@@ -84,7 +84,7 @@ fn together(
     spec: &VarSpec,
     source: TypedSource,
 ) -> Result<TypedInitialization, AllocError>
-    ensures { IfOk result (λ i. initialization_of i ≡ together (facts_of facts.now) (texts_of names.now) file (var_of spec.now) (source_of source)) }
+    ensures { IfOk result (λ i. initialization_of i ≡ together (facts_of facts.now) (texts_in names.now) file (var_of spec.now) (as_source source)) }
 {
     let used = spec_names(
         alloc,
@@ -114,7 +114,7 @@ fn add_alone(
     found: &mut Vec<TypedInitialization>,
 ) -> Result<(), AllocError>
     ensures { OnOk result (map initialization_of found.new.items ≡ map initialization_of found.old.items
-        ++ each_alone (facts_of facts.now) (texts_of names.now) file (var_of spec.now).names (var_of spec.now).values (exprs_in typed.items)) }
+        ++ each_alone (facts_of facts.now) (texts_in names.now) file (var_of spec.now).names (var_of spec.now).values (as_exprs typed.items)) }
 {
     let variables = spec.names.as_slice();
     let values = spec.values.as_slice();
@@ -141,7 +141,7 @@ pub(crate) fn add_by(
     found: &mut Vec<TypedInitialization>,
 ) -> Result<(), AllocError>
     ensures { OnOk result (map initialization_of found.new.items ≡ map initialization_of found.old.items
-        ++ initializations_by (facts_of facts.now) (texts_of names.now) file (var_of spec.now) (option_map source_of source)) }
+        ++ initializations_by (facts_of facts.now) (texts_in names.now) file (var_of spec.now) (option_map as_source source)) }
 {
     match source {
         Some(TypedSource::Each(typed)) => add_alone(alloc, facts, names, file, spec, typed, found),

@@ -2,7 +2,7 @@
 //! [Package initialization](https://go.dev/ref/spec#Package_initialization)
 ghost use Rattle.std.specs.Prelude.{◌≡◌, ◌++◌, codes, map, IfOk};
 ghost use Rattle.std.specs.Fmt.{decimal};
-ghost use Rattle.go_typed.specs.Views.{function_of as typed_function};
+ghost use Rattle.go_typed.specs.Views.{as_function as typed_function};
 ghost use Rattle.go_package.specs.Typed.{with_numbers};
 
 use go_typed::package::TypedFunction;

@@ -7,7 +7,7 @@ ghost use Rattle.go_ast.specs.Trees.{File};
 ghost use Rattle.go_typed.specs.Trees as typed;
 ghost use Rattle.go_scope.specs.Order.{Grounded};
 ghost use Rattle.go_objects.specs.Objects.{objects_of};
-ghost use Rattle.go_objects.specs.Table.{Package, rows};
+ghost use Rattle.go_objects.specs.Table.{PackageTable, rows};
 ghost use Rattle.go_package.specs.Faults.{Facts, AreRecursive, files_faults};
 ghost use Rattle.go_package.specs.Imports.{Importable};
 ghost use Rattle.go_package.specs.Claims.{AtMostOne, OfAllFiles, SomeOne};
@@ -28,7 +28,7 @@ pub fn law_fault_within()
 
 /// Of each package it holds what is known of its names, and which of them depend on themselves.
 pub fn law_some_facts()
-    ensures { (p : Package) → (facts : Facts) × AreFacts p facts }
+    ensures { (p : PackageTable) → (facts : Facts) × AreFacts p facts }
 {}
 
 /// Each package has a first fault, or has none and is a typed package.

@@ -4,8 +4,8 @@ ghost use Rattle.std.specs.Prelude.{◌≡◌, map};
 ghost use Rattle.std.specs.List.{flat_map};
 ghost use Rattle.go_ast.specs.Trees as trees;
 ghost use Rattle.go_ast.specs.Views.{const_of, var_of, type_spec_of, function_of, top_of, file_of};
-ghost use Rattle.go_package.specs.Seen.{Finds};
-ghost use Rattle.go_package.specs.Packages.{is_reserved, reserved_faults, function_faults, names_faults};
+ghost use Rattle.go_package.specs.Views.{Finds};
+ghost use Rattle.go_package.specs.Packages.{is_reserved_name, reserved_faults, function_name_faults, reserved_names_faults};
 
 use go_ast::declaration::{ConstSpec, Decl, TypeSpec, VarSpec};
 use go_ast::file::{File, Function, TopLevel};
@@ -15,7 +15,7 @@ use go_text::fault::FaultKind;
 
 // Whether nothing may have a name but a function without parameters and results.
 fn is_reserved(clause: &str, name: &Name) -> bool
-    ensures { result ≡ is_reserved clause.now name.now }
+    ensures { result ≡ is_reserved_name clause.now name.now }
 {
     name.text() == "init" || (clause == "main" && name.text() == "main")
 }
@@ -66,7 +66,7 @@ fn check_types(clause: &str, specs: &[TypeSpec]) -> Result<(), ExprError>
 }
 
 fn check_function(clause: &str, function: &Function) -> Result<(), ExprError>
-    ensures { Finds result (function_faults clause.now (function_of function.now)) }
+    ensures { Finds result (function_name_faults clause.now (function_of function.now)) }
 {
     if function.parameters.is_empty() && function.results.is_empty() {
         return Ok(());
@@ -75,7 +75,7 @@ fn check_function(clause: &str, function: &Function) -> Result<(), ExprError>
 }
 
 fn check_top(clause: &str, top: &TopLevel) -> Result<(), ExprError>
-    ensures { Finds result (names_faults clause.now (top_of top.now)) }
+    ensures { Finds result (reserved_names_faults clause.now (top_of top.now)) }
 {
     match top {
         TopLevel::Declared(Decl::Constants(_, specs)) => check_constants(clause, specs),
@@ -88,7 +88,7 @@ fn check_top(clause: &str, top: &TopLevel) -> Result<(), ExprError>
 /// The first name in a file that only a function without parameters and results may have, and that
 /// is no such function, of a package of a name.
 pub(crate) fn check_reserved(clause: &str, file: &File) -> Result<(), ExprError>
-    ensures { Finds result (flat_map (names_faults clause.now) (file_of file.now).declarations) }
+    ensures { Finds result (flat_map (reserved_names_faults clause.now) (file_of file.now).declarations) }
 {
     for top in &file.declarations {
         check_top(clause, top)?;

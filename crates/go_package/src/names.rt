@@ -1,10 +1,10 @@
 //! The names of a typed package.
 ghost use Rattle.std.specs.Prelude.{◌≡◌, map, IfOk, string_bytes};
 ghost use Rattle.std.specs.Option.{option_map};
-ghost use Rattle.go_typed.specs.Views.{constant_of, name_of, variable_of};
-ghost use Rattle.go_expr.specs.Seen.{declared_of, names_of};
-ghost use Rattle.go_package.specs.Typed.{file_name, constant_in, type_in, constants_in, types_in, declared_at, variable_in, variables_in};
-ghost use Rattle.go_objects.specs.Seen.{object_of};
+ghost use Rattle.go_typed.specs.Views.{constant_of, as_name, variable_of};
+ghost use Rattle.go_expr.specs.Views.{declared_of, names_of};
+ghost use Rattle.go_package.specs.Typed.{file_name_at, exported_constant, type_in, constants_in, types_in, declared_at, variable_in, variables_in};
+ghost use Rattle.go_objects.specs.Views.{object_view};
 
 use go_expr::known::{Declared, Names};
 use go_objects::object::Object;
@@ -16,7 +16,7 @@ fn constant_in(
     name: &String,
     declared: &Option<Declared>,
 ) -> Result<Option<TypedConstant>, AllocError>
-    ensures { IfOk result (λ c. option_map constant_of c ≡ constant_in (string_bytes name.now, option_map declared_of declared.now)) }
+    ensures { IfOk result (λ c. option_map constant_of c ≡ exported_constant (string_bytes name.now, option_map declared_of declared.now)) }
 {
     let Some(Declared::Constant(of, value)) = declared else {
         return Ok(None);
@@ -30,7 +30,7 @@ fn constant_in(
 
 // The type that a name of a package declares.
 fn type_in(name: &String, declared: &Option<Declared>) -> Result<Option<TypedName>, AllocError>
-    ensures { IfOk result (λ t. option_map name_of t ≡ type_in (string_bytes name.now, option_map declared_of declared.now)) }
+    ensures { IfOk result (λ t. option_map as_name t ≡ type_in (string_bytes name.now, option_map declared_of declared.now)) }
 {
     let Some(Declared::Type(of)) = declared else {
         return Ok(None);
@@ -58,7 +58,7 @@ pub(crate) fn constants_in(alloc: Global, known: &Names) -> Result<Vec<TypedCons
 /// The types among the names of a package. An `Err` only where memory ran out.
 /// [Type declarations](https://go.dev/ref/spec#Type_declarations)
 pub(crate) fn types_in(alloc: Global, known: &Names) -> Result<Vec<TypedName>, AllocError>
-    ensures { IfOk result (λ found. map name_of found.items ≡ types_in (names_of known.now)) }
+    ensures { IfOk result (λ found. map as_name found.items ≡ types_in (names_of known.now)) }
 {
     let mut found = Vec::new(alloc);
     for (name, declared) in known.iter() {
@@ -87,7 +87,7 @@ fn variable_in(
     declared: Option<&Declared>,
 ) -> Result<Option<TypedVariable>, AllocError>
     ensures { IfOk result (λ v. option_map variable_of v
-        ≡ variable_in (map (λ f. f.now) files.now) (object_of object.now) (option_map (λ d. declared_of d.now) declared.entry)) }
+        ≡ variable_in (map (λ f. f.now) files.now) (object_view object.now) (option_map (λ d. declared_of d.now) declared.entry)) }
 {
     let Some(Declared::Global(of, _)) = declared else {
         return Ok(None);
@@ -102,7 +102,7 @@ fn variable_in(
 
 /// The name of the file of a number.
 pub(crate) fn file_name<'a>(files: &[&'a str], number: usize) -> &'a str
-    ensures { result.now ≡ file_name (map (λ f. f.now) files.now) number }
+    ensures { result.now ≡ file_name_at (map (λ f. f.now) files.now) number }
 {
     match files.get(number) {
         Some(name) => *name,
@@ -119,7 +119,7 @@ pub(crate) fn variables_in(
     objects: &[Object<'_>],
 ) -> Result<Vec<TypedVariable>, AllocError>
     ensures { IfOk result (λ found. map variable_of found.items
-        ≡ variables_in (map (λ f. f.now) files.now) (names_of known.now) (map object_of objects.now)) }
+        ≡ variables_in (map (λ f. f.now) files.now) (names_of known.now) (map object_view objects.now)) }
 {
     let mut found = Vec::new(alloc);
     for object in objects {

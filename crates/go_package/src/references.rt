@@ -3,8 +3,8 @@
 ghost use Rattle.std.specs.Prelude.{◌≡◌, map, IfOk, string_bytes};
 ghost use Rattle.go_scope.specs.Names.{used};
 ghost use Rattle.go_objects.specs.Table.{is_hidden};
-ghost use Rattle.go_objects.specs.Packages.{imports_of};
-ghost use Rattle.go_package.specs.Seen.{facts_of};
+ghost use Rattle.go_objects.specs.Packages.{declared_imports};
+ghost use Rattle.go_package.specs.Views.{facts_of};
 ghost use Rattle.go_package.specs.Typed.{is_reference, references};
 
 use crate::facts::Facts;
@@ -17,7 +17,7 @@ use std::alloc::{AllocError, Global};
 
 // Whether one of some imports has a name.
 fn is_hidden(imports: &[Import<'_>], name: &str) -> bool
-    ensures { result ≡ is_hidden (imports_of imports.now) name.now }
+    ensures { result ≡ is_hidden (declared_imports imports.now) name.now }
 {
     for import in imports {
         if name == import.name {

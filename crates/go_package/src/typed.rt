@@ -3,11 +3,11 @@
 ghost use Rattle.std.specs.Prelude.{◌≡◌, ℕ, Some, Err, IfOk};
 ghost use Rattle.go_typed.specs.Views.{typed_of};
 ghost use Rattle.go_objects.specs.Packages.{package_of};
-ghost use Rattle.go_package.specs.Seen.{facts_of, files_of, importables_of, texts_of, initial_in, uses_in, functions_in};
+ghost use Rattle.go_package.specs.Views.{facts_of, files_of, importables_of, texts_in, initial_in, uses_in, functions_in};
 ghost use Rattle.go_package.specs.declared.error.DeclError.TheVariants as errors;
 ghost use Rattle.go_package.specs.Packages.{package_in, IsFaultOf};
 ghost use Rattle.go_package.specs.Typed.{package_name, typed_package, top_initializations, top_uses, top_functions, of_files, IsTypedIn};
-ghost use Rattle.go_package.specs.Told.{TypesIn};
+ghost use Rattle.go_package.specs.Results.{TypesIn};
 
 use crate::bodies::Bodies;
 use crate::check::{check_facts, package_of};
@@ -45,10 +45,10 @@ fn typed_package(
     files: &[&File],
     bodies: Bodies,
 ) -> Result<Typed, AllocError>
-    requires initializations { initial_in bodies ≡ of_files (top_initializations (facts_of facts.now) (texts_of names.now)) 0 (files_of files.now) }
+    requires initializations { initial_in bodies ≡ of_files (top_initializations (facts_of facts.now) (texts_in names.now)) 0 (files_of files.now) }
     requires uses { uses_in bodies ≡ of_files (top_uses (facts_of facts.now)) 0 (files_of files.now) }
     requires functions { functions_in bodies ≡ of_files (top_functions (facts_of facts.now)) 0 (files_of files.now) }
-    ensures { IfOk result (λ t. typed_of t ≡ typed_package edition (facts_of facts.now) (texts_of names.now) (files_of files.now)) }
+    ensures { IfOk result (λ t. typed_of t ≡ typed_package edition (facts_of facts.now) (texts_in names.now) (files_of files.now)) }
 {
     let package = facts.package();
     let known = facts.known();
@@ -83,7 +83,7 @@ pub fn typed<'a>(
     packages: &[Importable<'a>],
 ) -> Result<Typed, DeclError>
     ensures good { IfOk result (λ t. IsTypedIn edition (package_in edition path.now (files_of files.now) (importables_of packages.now)) (files_of files.now)
-        (importables_of packages.now) (texts_of names.now) (typed_of t)) }
+        (importables_of packages.now) (texts_in names.now) (typed_of t)) }
     ensures faulty { (file : ℕ) (place : Place) (kind : FaultKind) → result ≡ Err (errors.Faulty file place kind)
         → IsFaultOf edition path.now (files_of files.now) (importables_of packages.now) (Some (file, (place, kind))) }
 {
@@ -100,7 +100,7 @@ fn typed_in<'a>(
     names: &[&str],
     files: &[&'a File],
 ) -> Result<Typed, DeclError>
-    ensures { TypesIn edition (package_of «package».now) (files_of files.now) (importables_of packages.now.all.now) (texts_of names.now) result }
+    ensures { TypesIn edition (package_of «package».now) (files_of files.now) (importables_of packages.now.all.now) (texts_in names.now) result }
 {
     let known = table(alloc, package)?;
     let facts = Facts::new(alloc, package, &known)?;

@@ -2,11 +2,11 @@
 ghost use Rattle.std.specs.Prelude.{◌≡◌, map};
 ghost use Rattle.std.specs.List.{flat_map};
 ghost use Rattle.go_ast.specs.Views.{type_spec_of};
-ghost use Rattle.go_types.specs.Views.{type_of};
+ghost use Rattle.go_types.specs.Views.{go_type};
 ghost use Rattle.go_expr.specs.Verdicts.{broken};
 ghost use Rattle.go_objects.specs.Table.{named_type};
 ghost use Rattle.go_package.specs.Faults.{type_spec_faults};
-ghost use Rattle.go_package.specs.Seen.{facts_of, Finds};
+ghost use Rattle.go_package.specs.Views.{facts_of, Finds};
 
 use crate::declared::check_name;
 use crate::facts::Facts;
@@ -53,7 +53,7 @@ fn check_size(
     name: &str,
     of: &GoType,
 ) -> Result<(), ExprError>
-    ensures { Finds result (broken place (named_type path.now name.now (type_of of.now))) }
+    ensures { Finds result (broken place (named_type path.now name.now (go_type of.now))) }
 {
     match named_type(alloc, path, name, of)? {
         Some(_) => Ok(()),

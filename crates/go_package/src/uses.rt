@@ -6,7 +6,7 @@ ghost use Rattle.go_ast.specs.Views.{top_of};
 ghost use Rattle.go_typed.specs.Views.{uses_of};
 ghost use Rattle.go_scope.specs.Names.{used};
 ghost use Rattle.go_uses.specs.Uses.{in_top};
-ghost use Rattle.go_package.specs.Seen.{facts_of};
+ghost use Rattle.go_package.specs.Views.{facts_of};
 ghost use Rattle.go_package.specs.Typed.{top_uses};
 
 use crate::facts::Facts;

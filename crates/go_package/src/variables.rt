@@ -3,18 +3,18 @@ ghost use Rattle.std.specs.Prelude.{◌≡◌, ◌++◌, ℕ, List, map, is_some
 ghost use Rattle.std.specs.List.{flat_map};
 ghost use Rattle.std.specs.Option.{option_map};
 ghost use Rattle.go_ast.specs.Views.{var_of, type_of as type_tree};
-ghost use Rattle.go_types.specs.Views.{type_of};
-ghost use Rattle.go_typed.specs.Views.{source_of, initialization_of};
+ghost use Rattle.go_types.specs.Views.{go_type};
+ghost use Rattle.go_typed.specs.Views.{as_source, initialization_of};
 ghost use Rattle.go_expr.specs.Rules.{fine};
 ghost use Rattle.go_expr.specs.Verdicts.{both, asked_both, broken};
-ghost use Rattle.go_expr.specs.Seen.{scope_of};
+ghost use Rattle.go_expr.specs.Views.{scope_of};
 ghost use Rattle.go_stmt.specs.Rules.{variables_source};
 ghost use Rattle.go_stmt.specs.Statements.{values_known, written_faults};
-ghost use Rattle.go_stmt.specs.Seen.{values_seen};
+ghost use Rattle.go_stmt.specs.Views.{values_seen};
 ghost use Rattle.go_objects.specs.Objects.{variables_of};
-ghost use Rattle.go_objects.specs.Seen.{spec_of};
+ghost use Rattle.go_objects.specs.Views.{spec_of};
 ghost use Rattle.go_package.specs.Faults.{written_type, var_parts_faults, variables_by, var_spec_faults};
-ghost use Rattle.go_package.specs.Seen.{facts_of, texts_of, Finds};
+ghost use Rattle.go_package.specs.Views.{facts_of, texts_in, Finds};
 ghost use Rattle.go_package.specs.Typed.{initializations_by, spec_initializations};
 
 use crate::apart::check_apart;
@@ -50,7 +50,7 @@ pub(crate) fn check_variables(
 ) -> Result<(), ExprError>
     ensures faults { Finds result (flat_map (var_spec_faults (facts_of facts.now) file) (map var_of specs.now)) }
     ensures initializations { OnOk result (map initialization_of found.new.items ≡ map initialization_of found.old.items
-        ++ flat_map (spec_initializations (facts_of facts.now) (texts_of names.now) file) (map var_of specs.now)) }
+        ++ flat_map (spec_initializations (facts_of facts.now) (texts_in names.now) file) (map var_of specs.now)) }
 {
     for spec in specs {
         check_var_spec(alloc, facts, names, file, spec, found)?;
@@ -68,7 +68,7 @@ fn check_var_spec(
 ) -> Result<(), ExprError>
     ensures faults { Finds result (var_spec_faults (facts_of facts.now) file (var_of spec.now)) }
     ensures initializations { OnOk result (map initialization_of found.new.items ≡ map initialization_of found.old.items
-        ++ spec_initializations (facts_of facts.now) (texts_of names.now) file (var_of spec.now)) }
+        ++ spec_initializations (facts_of facts.now) (texts_in names.now) file (var_of spec.now)) }
 {
     let source = source_in(alloc, facts, file, spec)?;
     add_by(alloc, facts, names, file, spec, source, found)?;
@@ -85,7 +85,7 @@ fn source_in(
 ) -> Result<Option<TypedSource>, ExprError>
     ensures faults { Finds result (var_spec_faults (facts_of facts.now) file (var_of spec.now)) }
     ensures initializations { (ns : List (List ℕ)) → let t = facts_of facts.now in let spec = var_of spec.now in
-        IfOk result (λ source. initializations_by t ns file spec (option_map source_of source) ≡ spec_initializations t ns file spec) }
+        IfOk result (λ source. initializations_by t ns file spec (option_map as_source source) ≡ spec_initializations t ns file spec) }
 {
     let Some(first) = spec.names.first() else {
         return Ok(None);
@@ -107,9 +107,9 @@ fn check_whole(
     parts: Parts,
 ) -> Result<Option<TypedSource>, ExprError>
     ensures faults { Finds result (variables_by (facts_of facts.now) file place (var_of spec.now)
-        (option_map (option_map type_of) parts.of) (option_map values_seen parts.values)) }
-    ensures source { IfOk result (λ source. option_map source_of source ≡ fine (asked_both (variables_source (var_of spec.now).names)
-        (option_map (option_map type_of) parts.of) (option_map values_seen parts.values))) }
+        (option_map (option_map go_type) parts.of) (option_map values_seen parts.values)) }
+    ensures source { IfOk result (λ source. option_map as_source source ≡ fine (asked_both (variables_source (var_of spec.now).names)
+        (option_map (option_map go_type) parts.of) (option_map values_seen parts.values))) }
 {
     if parts.are_known() {
         return check_source(alloc, place, &spec.names, parts);
@@ -140,7 +140,7 @@ struct Parts {
 
 impl Parts {
     fn are_known(&self) -> bool
-        ensures { result ≡ is_some (both (option_map (option_map type_of) self.now.of) (option_map values_seen self.now.values)) }
+        ensures { result ≡ is_some (both (option_map (option_map go_type) self.now.of) (option_map values_seen self.now.values)) }
     {
         self.of.is_some() && self.values.is_some()
     }
@@ -149,7 +149,7 @@ impl Parts {
 // The type and the values of a specification, or the first fault in them.
 fn check_parts(alloc: Global, scope: &Scope<'_>, spec: &VarSpec) -> Result<Parts, ExprError>
     ensures faults { Finds result (var_parts_faults (scope_of scope.now) (var_of spec.now)) }
-    ensures of { IfOk result (λ parts. option_map (option_map type_of) parts.of ≡ written_type (scope_of scope.now) (var_of spec.now).type) }
+    ensures of { IfOk result (λ parts. option_map (option_map go_type) parts.of ≡ written_type (scope_of scope.now) (var_of spec.now).type) }
     ensures values { IfOk result (λ parts. option_map values_seen parts.values ≡ values_known (scope_of scope.now) (var_of spec.now).values) }
 {
     let of = check_written(alloc, scope, spec.type_expr.as_ref())?;
@@ -164,7 +164,7 @@ pub(crate) fn check_written(
     type_expr: Option<&TypeExpr>,
 ) -> Result<Option<Option<GoType>>, ExprError>
     ensures faults { Finds result (written_faults (scope_of scope.now) (option_map (λ t. type_tree t.now) type_expr.entry)) }
-    ensures of { IfOk result (λ of. option_map (option_map type_of) of ≡ written_type (scope_of scope.now) (option_map (λ t. type_tree t.now) type_expr.entry)) }
+    ensures of { IfOk result (λ of. option_map (option_map go_type) of ≡ written_type (scope_of scope.now) (option_map (λ t. type_tree t.now) type_expr.entry)) }
 {
     let Some(type_expr) = type_expr else {
         return Ok(Some(None));
@@ -184,9 +184,9 @@ fn check_source(
     names: &[Name],
     parts: Parts,
 ) -> Result<Option<TypedSource>, ExprError>
-    ensures faults { Finds result (broken place (asked_both (variables_source names.now) (option_map (option_map type_of) parts.of) (option_map values_seen parts.values))) }
-    ensures source { IfOk result (λ source. option_map source_of source
-        ≡ fine (asked_both (variables_source names.now) (option_map (option_map type_of) parts.of) (option_map values_seen parts.values))) }
+    ensures faults { Finds result (broken place (asked_both (variables_source names.now) (option_map (option_map go_type) parts.of) (option_map values_seen parts.values))) }
+    ensures source { IfOk result (λ source. option_map as_source source
+        ≡ fine (asked_both (variables_source names.now) (option_map (option_map go_type) parts.of) (option_map values_seen parts.values))) }
 {
     let (Some(of), Some(values)) = (parts.of, parts.values) else {
         return Ok(None);

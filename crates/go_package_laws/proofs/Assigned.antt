@@ -9,7 +9,7 @@ use Rattle.go_types.specs.Types.{Type', basic, array, slice, struct, named}
 use Rattle.go_types.specs.Relations.{underlying, identical, assignable}
 use Rattle.go_typed.specs.Trees as typed
 use Rattle.go_typed.specs.Trees.{Expr, constant, expr_type}
-use Rattle.go_meaning_laws.specs.WellTyped.{Setting, is_bool, Converts, IsExpr}
+use Rattle.go_meaning_laws.specs.WellTyped.{Setting, is_bool_type, Converts, IsExpr}
 use Rattle.go_expr.specs.Known.{Verdict, Fine, Breaks, Passed}
 use Rattle.go_expr.specs.Rules.{constant_in, int_kind, in_kind, lies_in, as_type, assigned, default_type, defaulted}
 use Rattle.go_package_laws.proofs.Soundness.{Table, HasSoundWay, IsSoundType, is_of_kind, IsUntypedConstant, IsSoundValue}
@@ -83,8 +83,8 @@ module _ (w : Table) (g : Setting) (d : List ℕ) where
   unless_identical t e h k same true at = (let is = same at in (h, is.0, is.1))
   unless_identical t e h k same false at = ((h, k), refl, tt)
 
-  pub converts_truth : (v t : Type') → v ≡ untyped_bool → is_bool (underlying t) ≡ true → Converts (underlying v) (underlying t)
-  converts_truth v t at h = inr (inr (subst (λ u. is_bool (underlying u) ≡ true) (sym at) refl, h))
+  pub converts_truth : (v t : Type') → v ≡ untyped_bool → is_bool_type (underlying t) ≡ true → Converts (underlying v) (underlying t)
+  converts_truth v t at h = inr (inr (subst (λ u. is_bool_type (underlying u) ≡ true) (sym at) refl, h))
 
   truth_suits : (v t : Type') → IsSoundType w t → v ≡ untyped_bool → assignable v t ≡ true → Converts (underlying v) (underlying t)
   truth_suits v t h at f = converts_truth v t at (fits_truth t (untyped_fits w kinds.Bool t h (subst (λ u. assignable u t ≡ true) at f)))

@@ -20,10 +20,10 @@ use Rattle.go_types.specs.Relations.{underlying, identical, is_comparable, assig
 use Rattle.go_typed.specs.declared.expression.Operator.TheVariants as nodes
 use Rattle.go_typed.specs.Trees as typed
 use Rattle.go_typed.specs.Trees.{Expr, constant, expr_type}
-use Rattle.go_meaning_laws.specs.WellTyped.{Setting, is_integer, is_string, is_sum, is_compared, IsConstant, IsExpr}
+use Rattle.go_meaning_laws.specs.WellTyped.{Setting, is_integer_type, is_string_type, is_sum, is_compared, IsConstant, IsExpr}
 use Rattle.go_expr.specs.Known.{Verdict, Fine, Breaks, Passed}
 use Rattle.go_expr.specs.Rules as rules
-use Rattle.go_expr.specs.Rules.{checked, constant_in, int_kind, lies_in, as_type, takes, common, is_defined, result_type, operation, divides_by_zero, operated, operand_type, combined}
+use Rattle.go_expr.specs.Rules.{checked, constant_in, int_kind, lies_in, as_type, takes_type, common, is_defined, result_type, operation, divides_by_zero, operation_verdict, operand_type, combined}
 use Rattle.go_package_laws.proofs.Soundness.{Table, IsSoundType, is_of_kind, HasSoundWay, IsSoundValue}
 use Rattle.go_package_laws.proofs.Types.{untyped_bool, no_untyped, not_assignable, assignable_itself}
 use Rattle.go_package_laws.proofs.Constants.{IsConstantOf, IsEither, two_operands}
@@ -40,15 +40,15 @@ checked_gives P Q rule Passed h each = tt
 
 -- of one of the operands' types, which the other takes too
 abbrev IsCommon : Type' → Type' → Type' → Type 0
-IsCommon v u t = ((t ≡ v) × (takes u t ≡ true)) ⊎ ((t ≡ u) × (takes v t ≡ true))
+IsCommon v u t = ((t ≡ v) × (takes_type u t ≡ true)) ⊎ ((t ≡ u) × (takes_type v t ≡ true))
 
-common_by : (v u t : Type') (a b : Bool) → takes u v ≡ a → takes v u ≡ b → (if a then Some v else (if b then Some u else None)) ≡ Some t → IsCommon v u t
-common_by v u t true b p q h = (let same : t ≡ v = sym (some_same v t h) in inl (same, ap (takes u) same ∙ p))
-common_by v u t false true p q h = (let same : t ≡ u = sym (some_same u t h) in inr (same, ap (takes v) same ∙ q))
+common_by : (v u t : Type') (a b : Bool) → takes_type u v ≡ a → takes_type v u ≡ b → (if a then Some v else (if b then Some u else None)) ≡ Some t → IsCommon v u t
+common_by v u t true b p q h = (let same : t ≡ v = sym (some_same v t h) in inl (same, ap (takes_type u) same ∙ p))
+common_by v u t false true p q h = (let same : t ≡ u = sym (some_same u t h) in inr (same, ap (takes_type v) same ∙ q))
 common_by v u t false false p q h = absurd (none_some t h)
 
 common_is : (v u t : Type') → common v u ≡ Some t → IsCommon v u t
-common_is v u t h = common_by v u t (takes u v) (takes v u) refl refl h
+common_is v u t h = common_by v u t (takes_type u v) (takes_type v u) refl refl h
 
 -- what is known of that type
 abbrev IsOperand : BinaryOperator → Expr → Expr → Type' → Type 0
@@ -68,27 +68,27 @@ operand_types op x y = elim (common (expr_type x) (expr_type y)) as (λ o. commo
 
 -- ---- what an operator is defined on
 
-sums : (op : ArithmeticOperator) (s : Type') → is_integer s ≡ true → is_sum op s ≡ true
-sums Add s h = or_left (is_integer s) (is_string s) h
+sums : (op : ArithmeticOperator) (s : Type') → is_integer_type s ≡ true → is_sum op s ≡ true
+sums Add s h = or_left (is_integer_type s) (is_string_type s) h
 sums op s h = h
 
-comparable_integer : (s : Type') → is_integer s ≡ true → is_comparable s ≡ true
+comparable_integer : (s : Type') → is_integer_type s ≡ true → is_comparable s ≡ true
 comparable_integer (basic b) h = refl
 comparable_integer s h = absurd (true≢false (sym h))
 
-comparable_text : (s : Type') → is_string s ≡ true → is_comparable s ≡ true
+comparable_text : (s : Type') → is_string_type s ≡ true → is_comparable s ≡ true
 comparable_text (basic b) h = refl
 comparable_text s h = absurd (true≢false (sym h))
 
-compared_integers : (op : ComparisonOperator) (s : Type') → is_integer s ≡ true → is_compared op s ≡ true
+compared_integers : (op : ComparisonOperator) (s : Type') → is_integer_type s ≡ true → is_compared op s ≡ true
 compared_integers Equal s h = comparable_integer s h
 compared_integers NotEqual s h = comparable_integer s h
-compared_integers op s h = or_left (is_integer s) (is_string s) h
+compared_integers op s h = or_left (is_integer_type s) (is_string_type s) h
 
-compared_texts : (op : ComparisonOperator) (s : Type') → is_string s ≡ true → is_compared op s ≡ true
+compared_texts : (op : ComparisonOperator) (s : Type') → is_string_type s ≡ true → is_compared op s ≡ true
 compared_texts Equal s h = comparable_text s h
 compared_texts NotEqual s h = comparable_text s h
-compared_texts op s h = or_right (is_integer s) (is_string s) h
+compared_texts op s h = or_right (is_integer_type s) (is_string_type s) h
 
 comparable_below : (t : Type') → is_comparable t ≡ true → is_comparable (underlying t) ≡ true
 comparable_below (named p x t) h = comparable_below t h
@@ -104,7 +104,7 @@ compared_equal op t h = absurd (true≢false (sym h))
 
 module _ (w : Table) (g : Setting) (d : List ℕ) where
   sum_of_texts : (op : ArithmeticOperator) (t : Type') → IsValueType w g d t → (elim op [ Add ↦ rules.is_string t | _ ↦ false ]) ≡ true → is_sum op (underlying t) ≡ true
-  sum_of_texts Add t h e = or_right (is_integer (underlying t)) (is_string (underlying t)) (string_value w g d t h e)
+  sum_of_texts Add t h e = or_right (is_integer_type (underlying t)) (is_string_type (underlying t)) (string_value w g d t h e)
   sum_of_texts op t h e = absurd (true≢false (sym e))
 
   arithmetic_defined : (op : ArithmeticOperator) (t : Type') → IsValueType w g d t → is_defined (Arithmetic op) t ≡ true → is_sum op (underlying t) ≡ true
@@ -140,9 +140,9 @@ module _ (w : Table) (g : Setting) (d : List ℕ) where
 
   -- the type of the operand, or one that it takes
   abbrev IsTaken : Expr → Type' → Type 0
-  IsTaken e t = (expr_type e ≡ t) ⊎ (takes (expr_type e) t ≡ true)
+  IsTaken e t = (expr_type e ≡ t) ⊎ (takes_type (expr_type e) t ≡ true)
 
-  takes_assignable : (v t : Type') → IsSoundType w t → takes v t ≡ true → assignable v t ≡ true
+  takes_assignable : (v t : Type') → IsSoundType w t → takes_type v t ≡ true → assignable v t ≡ true
   takes_assignable (basic (basics.Untyped kinds.Int)) (basic (basics.Untyped kinds.Rune)) h e = absurd (true≢false (sym h))
   takes_assignable v t h e = e
 
@@ -154,7 +154,7 @@ module _ (w : Table) (g : Setting) (d : List ℕ) where
   operand_as e t h k taken lies = good_as w g d t e h k (taken_assignable e t h taken) lies
 
   -- a value of a sound type takes none without
-  sound_takes_none : (v : Type') (k : Untyped) → IsSoundType w v → takes v (basic (basics.Untyped k)) ≡ true → ⊥
+  sound_takes_none : (v : Type') (k : Untyped) → IsSoundType w v → takes_type v (basic (basics.Untyped k)) ≡ true → ⊥
   sound_takes_none (basic basics.Bool) k h e = not_assignable w (basic basics.Bool) k h e
   sound_takes_none (basic basics.String) k h e = not_assignable w (basic basics.String) k h e
   sound_takes_none (basic (basics.Integer i)) k h e = not_assignable w (basic (basics.Integer i)) k h e
@@ -164,13 +164,13 @@ module _ (w : Table) (g : Setting) (d : List ℕ) where
   sound_takes_none (struct fs) k h e = not_assignable w (struct fs) k h e
   sound_takes_none (named p x t) k h e = not_assignable w (named p x t) k h e
 
-  truth_takes : (k : Untyped) → takes untyped_bool (basic (basics.Untyped k)) ≡ true → basic (basics.Untyped k) ≡ untyped_bool
+  truth_takes : (k : Untyped) → takes_type untyped_bool (basic (basics.Untyped k)) ≡ true → basic (basics.Untyped k) ≡ untyped_bool
   truth_takes kinds.Bool e = refl
   truth_takes kinds.Int e = absurd (true≢false (sym e))
   truth_takes kinds.Rune e = absurd (true≢false (sym e))
   truth_takes kinds.String e = absurd (true≢false (sym e))
 
-  taken_by_truth : (k : Untyped) → takes (basic (basics.Untyped k)) untyped_bool ≡ true → basic (basics.Untyped k) ≡ untyped_bool
+  taken_by_truth : (k : Untyped) → takes_type (basic (basics.Untyped k)) untyped_bool ≡ true → basic (basics.Untyped k) ≡ untyped_bool
   taken_by_truth kinds.Bool e = refl
   taken_by_truth kinds.Int e = absurd (true≢false (sym e))
   taken_by_truth kinds.Rune e = absurd (true≢false (sym e))
@@ -181,13 +181,13 @@ module _ (w : Table) (g : Setting) (d : List ℕ) where
   other_takes e k (inl h) (inl same) = absurd (no_untyped w (expr_type e) k h same)
   other_takes e k (inl h) (inr taken) = absurd (sound_takes_none (expr_type e) k h taken)
   other_takes e k (inr h) (inl same) = sym same ∙ h
-  other_takes e k (inr h) (inr taken) = truth_takes k (subst (λ u. takes u (basic (basics.Untyped k)) ≡ true) h taken)
+  other_takes e k (inr h) (inr taken) = truth_takes k (subst (λ u. takes_type u (basic (basics.Untyped k)) ≡ true) h taken)
 
   -- and both operands have it
   truth_taken : (e : Expr) → IsOperandType w (expr_type e) → IsTaken e untyped_bool → expr_type e ≡ untyped_bool
   truth_taken e h (inl same) = same
   truth_taken e (inl h) (inr taken) = absurd (sound_takes_none (expr_type e) kinds.Bool h taken)
-  truth_taken e (inr h) (inr taken) = h.1 ∙ taken_by_truth h.0 (subst (λ u. takes u untyped_bool ≡ true) h.1 taken)
+  truth_taken e (inr h) (inr taken) = h.1 ∙ taken_by_truth h.0 (subst (λ u. takes_type u untyped_bool ≡ true) h.1 taken)
 
   truth_constant : (c : Const) → is_of_kind kinds.Bool c ≡ true → IsConstant untyped_bool c
   truth_constant (Truth b) h = (refl, refl)
@@ -261,7 +261,7 @@ module _ (w : Table) (g : Setting) (d : List ℕ) where
       operands_as t x y h k (first_taken x y t is.0) (second_taken x y t is.0) is.2 is.3 (operand_type_of (expr_type x) (expr_type y) t is.0 (value_type w g d x h) (value_type w g d y k)) none
 
   operated_by : (op : BinaryOperator) (x y : Expr) (t : Type') → IsSoundValue w g d x → IsSoundValue w g d y → IsOperand op x y t → (c e : Option Const) → constant_in x ≡ c → constant_in y ≡ e
-      → Gives (IsSoundValue w g d) (operated op t x y c e)
+      → Gives (IsSoundValue w g d) (operation_verdict op t x y c e)
   operated_by op x y t h k is (Some c) (Some e) at to =
       let one = constant_of w g d x c h at in
       let two = constant_of w g d y e k to in
@@ -272,5 +272,5 @@ module _ (w : Table) (g : Setting) (d : List ℕ) where
 
   pub combined_gives : (op : BinaryOperator) (x y : Expr) → IsSoundValue w g d x → IsSoundValue w g d y → Gives (IsSoundValue w g d) (combined op x y)
   combined_gives op x y h k =
-      checked_gives (IsOperand op x y) (IsSoundValue w g d) (λ t. operated op t x y (constant_in x) (constant_in y)) (operand_type op x y) (operand_types op x y)
+      checked_gives (IsOperand op x y) (IsSoundValue w g d) (λ t. operation_verdict op t x y (constant_in x) (constant_in y)) (operand_type op x y) (operand_types op x y)
       (λ t is. operated_by op x y t h k is (constant_in x) (constant_in y) refl refl)

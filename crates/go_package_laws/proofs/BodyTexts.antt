@@ -1,13 +1,13 @@
 -- Source trees of statements whose string literals are texts, and where nothing is declared behind a turn of a loop, as the grammar has it.
 use Rattle.std.specs.Prelude.{List, [], ◌∷◌, Option, Some, None}
-use Rattle.go_ast.specs.Trees.{TypeExpr, Expr, Exprs, Simple, call_statement, increment, decrement, assignment, operator_assignment, short_var_decl, ConstSpec, VarSpec, Decl, constants, variables, types, Stmt, declaration, simple, return, block_statement, if_statement, for_statement, range_statement, switch_statement, Block, block, If, conditional, Else, no_else, else_block, else_if, Stmts, no_stmts, some_stmts, Clauses, no_clauses, clause, Parameter, Function}
+use Rattle.go_ast.specs.Trees.{TypeExpr, Expression, ExpressionList, Simple, call_statement, increment, decrement, assignment, operator_assignment, short_var_decl, ConstSpec, VarSpec, Decl, constants, variables, types, Statement, declaration, simple, return, block_statement, if_statement, for_statement, range_statement, switch_statement, Block, block, If, conditional, Else, no_else, else_block, else_if, StatementList, no_stmts, some_stmts, Cases, no_clauses, clause, Parameter, FunctionDecl}
 use Rattle.go_package_laws.proofs.Texts.{HasTexts, HaveTexts, TypeHasTexts}
 
-abbrev pub MayHaveTexts : Option Expr → Type 0
+abbrev pub MayHaveTexts : Option Expression → Type 0
 MayHaveTexts None = Unit {0}
 MayHaveTexts (Some e) = HasTexts e
 
-abbrev pub CasesHaveTexts : Option Exprs → Type 0
+abbrev pub CasesHaveTexts : Option ExpressionList → Type 0
 CasesHaveTexts None = Unit {0}
 CasesHaveTexts (Some es) = HaveTexts es
 
@@ -46,11 +46,11 @@ DeclHasTexts (variables p ss) = VariablesHaveTexts ss
 DeclHasTexts (types p ss) = Unit {0}
 
 abbrev mutual
-  pub StmtsHaveTexts : Stmts → Type 0
+  pub StmtsHaveTexts : StatementList → Type 0
   StmtsHaveTexts no_stmts = Unit {0}
   StmtsHaveTexts (some_stmts s ss) = StmtHasTexts s × StmtsHaveTexts ss
 
-  pub StmtHasTexts : Stmt → Type 0
+  pub StmtHasTexts : Statement → Type 0
   StmtHasTexts (declaration p d) = DeclHasTexts d
   StmtHasTexts (simple p s) = SimpleHasTexts s
   StmtHasTexts (return p es) = HaveTexts es
@@ -72,7 +72,7 @@ abbrev mutual
   ElseHasTexts (else_block b) = BlockHasTexts b
   ElseHasTexts (else_if i) = IfHasTexts i
 
-  pub ClausesHaveTexts : Clauses → Type 0
+  pub ClausesHaveTexts : Cases → Type 0
   ClausesHaveTexts no_clauses = Unit {0}
   ClausesHaveTexts (clause p es ss rest) = CasesHaveTexts es × StmtsHaveTexts ss × ClausesHaveTexts rest
 
@@ -84,5 +84,5 @@ abbrev pub ResultsHaveTexts : List TypeExpr → Type 0
 ResultsHaveTexts [] = Unit {0}
 ResultsHaveTexts (t ∷ ts) = TypeHasTexts t × ResultsHaveTexts ts
 
-abbrev pub FunctionHasTexts : Function → Type 0
+abbrev pub FunctionHasTexts : FunctionDecl → Type 0
 FunctionHasTexts f = ParametersHaveTexts f.parameters × ResultsHaveTexts f.results × BlockHasTexts f.body

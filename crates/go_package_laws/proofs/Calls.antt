@@ -7,10 +7,10 @@ use Rattle.go_text.specs.declared.fault.FaultKind.TheVariants.{Assign, Count, Ra
 use Rattle.go_types.specs.Types.{Type'}
 use Rattle.go_types.specs.Relations.{underlying, assignable}
 use Rattle.go_typed.specs.Trees.{Symbol, Expr, expr_type, pack_exprs}
-use Rattle.go_meaning_laws.specs.WellTyped.{Setting, is_string, exprs_types, IsCall, IsExpr, AreExprs}
+use Rattle.go_meaning_laws.specs.WellTyped.{Setting, is_string_type, exprs_types, IsCall, IsExpr, AreWellTypedExprs}
 use Rattle.go_expr.specs.Known.{value, type', function, println, length', capacity', make', append', panic', Known, declared, package', results, printed, panicked, Verdict, Fine, Breaks, Passed}
 use Rattle.go_expr.specs.Rules as rules
-use Rattle.go_expr.specs.Rules.{fine, checked, valued, wrong, each_unless, printing, lies_in, as_type, assigned, default_type, defaulted, value_due, string, converted, length_of, capacity_of, appended, one, function_call, printable, called}
+use Rattle.go_expr.specs.Rules.{fine, checked, valued, wrong, fine_list, printing, lies_in, as_type, assigned, default_type, defaulted, value_due, string, converted, length_of, capacity_of, append_verdict, one, function_call, printable, called}
 use Rattle.go_package_laws.proofs.Soundness.{Table, AreSoundTypes, IsSoundValue, IsSoundDeclared}
 use Rattle.go_package_laws.proofs.SoundNames.{IsSoundKnown}
 use Rattle.go_package_laws.proofs.Assigned.{Gives, GoodAs, assigned_gives, defaulted_gives}
@@ -40,7 +40,7 @@ module _ (w : Table) (g : Setting) (d : List ℕ) where
 
   -- values of these types
   abbrev pub AreGood : List Type' → List Expr → Type 0
-  AreGood ts ys = AreExprs g d (pack_exprs ys) × (exprs_types (pack_exprs ys) ≡ ts)
+  AreGood ts ys = AreWellTypedExprs g d (pack_exprs ys) × (exprs_types (pack_exprs ys) ≡ ts)
 
   -- what is assigned is told or given
   assigned_told : (t : Type') (e : Expr) (a b : Bool) → assignable (expr_type e) t ≡ a → lies_in t e ≡ b → assigned t e ≡ Passed → ⊥
@@ -70,11 +70,11 @@ module _ (w : Table) (g : Setting) (d : List ℕ) where
   call_known s ts (r ∷ q ∷ rs) ys h k good = (good.0, subst (λ us. IsCall g s us (r ∷ q ∷ rs)) (sym good.1) h, k)
 
   function_if : (s : Symbol) (ts rs : List Type') (xs : List Expr) → IsSoundDeclared w g d (function s ts rs) → Every (IsSoundValue w g d) xs → (b : Bool) → nat_eq (length ts) (length xs) ≡ b
-      → Gives (IsSoundKnown w g d) (if b then checked (λ ys. Fine (function_call s rs ys)) (each_unless [] (map (λ k. assigned k.0 k.1) (zip ts xs))) else Breaks Count)
+      → Gives (IsSoundKnown w g d) (if b then checked (λ ys. Fine (function_call s rs ys)) (fine_list [] (map (λ k. assigned k.0 k.1) (zip ts xs))) else Breaks Count)
   function_if s ts rs xs h k false is = tt
   function_if s ts rs xs h k true is =
       let vs = map (λ k. assigned k.0 k.1) (zip ts xs) in
-      checked_gives (AreGood ts) (IsSoundKnown w g d) (λ ys. Fine (function_call s rs ys)) (each_unless [] vs)
+      checked_gives (AreGood ts) (IsSoundKnown w g d) (λ ys. Fine (function_call s rs ys)) (fine_list [] vs)
       (each_gives (AreGood ts) [] vs (λ none sure. arguments ts xs (eqb-true (length ts) (length xs) is) h.1 k sure))
       (λ ys good. call_known s ts rs ys h.0 h.2 good)
 
@@ -95,16 +95,16 @@ module _ (w : Table) (g : Setting) (d : List ℕ) where
   printable_gives : (e : Expr) → IsSoundValue w g d e → Gives IsGood (printable e)
   printable_gives e h = printable_if e h (rules.is_integer (expr_type e) || rules.is_string (expr_type e) || rules.is_bool (expr_type e)) refl
 
-  printables : (xs : List Expr) → Every (IsSoundValue w g d) xs → AreExprs g d (pack_exprs (filter_map fine (map printable xs)))
+  printables : (xs : List Expr) → Every (IsSoundValue w g d) xs → AreWellTypedExprs g d (pack_exprs (filter_map fine (map printable xs)))
   printables [] h = tt
   printables (x ∷ xs) h = printed_front (printable x) (map printable xs) (printable_gives x h.0) (printables xs h.1)
     where
-      printed_front : (v : Verdict Expr) (vs : List (Verdict Expr)) → Gives IsGood v → AreExprs g d (pack_exprs (filter_map fine vs)) → AreExprs g d (pack_exprs (filter_map fine (v ∷ vs)))
+      printed_front : (v : Verdict Expr) (vs : List (Verdict Expr)) → Gives IsGood v → AreWellTypedExprs g d (pack_exprs (filter_map fine vs)) → AreWellTypedExprs g d (pack_exprs (filter_map fine (v ∷ vs)))
       printed_front (Fine y) vs h k = (h, k)
       printed_front (Breaks kind) vs h k = k
       printed_front Passed vs h k = k
 
-  printing_gives : (v : Verdict (List Expr)) → Gives (λ ys. AreExprs g d (pack_exprs ys)) v → Gives (IsSoundKnown w g d) (printing v)
+  printing_gives : (v : Verdict (List Expr)) → Gives (λ ys. AreWellTypedExprs g d (pack_exprs ys)) v → Gives (IsSoundKnown w g d) (printing v)
   printing_gives (Fine ys) h = h
   printing_gives (Breaks kind) h = tt
   printing_gives Passed h = tt
@@ -114,17 +114,17 @@ module _ (w : Table) (g : Setting) (d : List ℕ) where
       valued_gives (checked (converted t) (one xs)) (checked_gives (IsSoundValue w g d) (IsSoundValue w g d) (converted t) (one xs) (one_gives xs k) (λ x good. converted_gives w g d t x h good))
   called_gives (declared (function s ts rs)) xs h k = function_if s ts rs xs h k (nat_eq (length ts) (length xs)) refl
   called_gives (declared println) xs h k =
-      printing_gives (each_unless [] (map printable xs)) (each_gives (λ ys. AreExprs g d (pack_exprs ys)) [] (map printable xs) (λ none sure. printables xs k))
+      printing_gives (fine_list [] (map printable xs)) (each_gives (λ ys. AreWellTypedExprs g d (pack_exprs ys)) [] (map printable xs) (λ none sure. printables xs k))
   called_gives (declared length') xs h k =
       valued_gives (checked length_of (one xs)) (checked_gives (IsSoundValue w g d) (IsSoundValue w g d) length_of (one xs) (one_gives xs k) (λ x good. length_gives w g d x good))
   called_gives (declared capacity') xs h k =
       valued_gives (checked capacity_of (one xs)) (checked_gives (IsSoundValue w g d) (IsSoundValue w g d) capacity_of (one xs) (one_gives xs k) (λ x good. capacity_gives w g d x good))
   called_gives (declared make') xs h k = tt
-  called_gives (declared append') xs h k = valued_gives (appended xs) (appended_gives w g d xs k)
+  called_gives (declared append') xs h k = valued_gives (append_verdict xs) (appended_gives w g d xs k)
   called_gives (declared panic') xs h k =
       checked_gives (GoodAs w g d string) (IsSoundKnown w g d) (λ y. Fine (panicked y)) (checked (assigned string) (one xs))
       (checked_gives (IsSoundValue w g d) (GoodAs w g d string) (assigned string) (one xs) (one_gives xs k) (λ x good. assigned_gives w g d string x refl good))
-      (λ y good. (good.0, ap (λ u. is_string (underlying u)) good.1))
+      (λ y good. (good.0, ap (λ u. is_string_type (underlying u)) good.1))
   called_gives (declared (value e)) xs h k = tt
   called_gives (package' names) xs h k = tt
   called_gives (results ts s es) xs h k = tt

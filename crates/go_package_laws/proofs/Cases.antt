@@ -15,12 +15,12 @@ use Rattle.go_types.specs.declared.types.Untyped.{Untyped}
 use Rattle.go_types.specs.declared.types.Untyped.TheVariants as kinds
 use Rattle.go_types.specs.Types.{Type', basic, array, slice, struct, named, Fields, no_fields, field}
 use Rattle.go_types.specs.Texts.{basic_text}
-use Rattle.go_types.specs.Relations.{underlying, identical, all_identical, is_literal, fits, assignable}
+use Rattle.go_types.specs.Relations.{underlying, identical, all_identical, is_literal, kind_fits, assignable}
 use Rattle.go_typed.specs.Trees.{Expr, local, expr_type, pack_exprs}
-use Rattle.go_meaning_laws.specs.WellTyped.{Setting, Suits, IsExpr, AreExprs, exprs_types, AreCases}
+use Rattle.go_meaning_laws.specs.WellTyped.{Setting, Suits, IsExpr, AreWellTypedExprs, exprs_types, AreCases}
 use Rattle.go_expr.specs.Known.{Scope, Verdict, Fine, Breaks, Passed}
-use Rattle.go_expr.specs.Rules.{fine, checked, wrong, each_unless, as_type, assigned, lies_in, takes, common, is_defined, operand_type}
-use Rattle.go_expr.specs.Verdicts.{operand, operands, verdict, joined}
+use Rattle.go_expr.specs.Rules.{fine, checked, wrong, fine_list, as_type, assigned, lies_in, takes_type, common, is_defined, operand_type}
+use Rattle.go_expr.specs.Verdicts.{operand, operand_list, verdict, chained}
 use Rattle.go_stmt.specs.Rules.{case_value}
 use Rattle.go_package_laws.proofs.Soundness.{Table, IsSoundType, IsSoundValue}
 use Rattle.go_package_laws.proofs.SoundNames.{IsSoundScope}
@@ -54,16 +54,16 @@ assignable_self t = rw (identical_self t) refl
 
 -- ---- where a type isn't left out
 
-takes_typed : (w : Table) (u t : Type') → IsSoundType w t → takes u t ≡ assignable u t
+takes_typed : (w : Table) (u t : Type') → IsSoundType w t → takes_type u t ≡ assignable u t
 takes_typed w (basic (basics.Untyped kinds.Int)) (basic (basics.Untyped kinds.Rune)) h = absurd (true≢false (sym h))
 takes_typed w u t h = refl
 
-typed_takes : (w : Table) (t u : Type') → IsSoundType w t → takes t u ≡ assignable t u
+typed_takes : (w : Table) (t u : Type') → IsSoundType w t → takes_type t u ≡ assignable t u
 typed_takes w (basic (basics.Untyped kinds.Int)) (basic (basics.Untyped kinds.Rune)) h = absurd (true≢false (sym h))
 typed_takes w t u h = refl
 
 not_literal : (x : Expected) (w : Table) (t : Type') (k : Untyped) → IsSoundType w t → (same literal below : Bool) → identical t (basic (basics.Untyped k)) ≡ same → (is_literal t || false) ≡ literal → identical (underlying t) (basic (basics.Untyped k)) ≡ below
-    → fits t (basic (basics.Untyped k)) ≡ false → assignable t (basic (basics.Untyped k)) ≡ true → ⊥
+    → kind_fits t (basic (basics.Untyped k)) ≡ false → assignable t (basic (basics.Untyped k)) ≡ true → ⊥
 not_literal x w t k h true literal below a b c d e = x.not_identical w t k h a
 not_literal x w t k h false literal true a b c d e = x.not_identical w (underlying t) k (sound_under w t h) c
 not_literal x w t k h false true false a b c d e = (let r : assignable t (basic (basics.Untyped k)) ≡ false = rw (a, b, c, d) refl in cc)
@@ -113,7 +113,7 @@ module _ (x : Expected) (w : Table) (g : Setting) where
   typed_value d e t h (inr (inl k)) fit = k.1
   typed_value d e t h (inr (inr k)) fit = absurd (not_assignable x w t kinds.Bool h (subst (λ (u : Type'). assignable t u ≡ true) k.1 fit))
 
-  case_by : (d : List ℕ) (t : Type') (e : Expr) (u : Type') (a b : Bool) → IsSoundType w t → IsSoundValue w g d e → takes (expr_type e) t ≡ a → takes t (expr_type e) ≡ b → common t (expr_type e) ≡ Some u → lies_in u e ≡ true
+  case_by : (d : List ℕ) (t : Type') (e : Expr) (u : Type') (a b : Bool) → IsSoundType w t → IsSoundValue w g d e → takes_type (expr_type e) t ≡ a → takes_type t (expr_type e) ≡ b → common t (expr_type e) ≡ Some u → lies_in u e ≡ true
       → IsExpr g d (as_type u e) × Suits (expr_type (as_type u e)) t
   case_by d t e u true b h k at is c lies =
       let r : common t (expr_type e) ≡ Some t = rw at refl in
@@ -135,33 +135,33 @@ module _ (x : Expected) (w : Table) (g : Setting) where
   sound_case d t e y h k is =
       let part = checked_part (λ u. Fine (as_type u e)) (operand_type (Comparison Equal) (local t 0) e) y is in
       let taken = compared_as (local t 0) e (common t (expr_type e)) part.0 refl part.1 in
-      let made = case_by d t e part.0 (takes (expr_type e) t) (takes t (expr_type e)) h k refl refl taken.0 taken.1 in
+      let made = case_by d t e part.0 (takes_type (expr_type e) t) (takes_type t (expr_type e)) h k refl refl taken.0 taken.1 in
       let same : as_type part.0 e ≡ y = (let q : Fine (as_type part.0 e) ≡ Fine y = part.2 in cc) in
       subst (λ (z : Expr). IsExpr g d z × Suits (expr_type z) t) same made
 
   all_cases : (d : List ℕ) (t : Type') (es : List Expr) → IsSoundType w t → AllSoundValues x w g d es → flat_map wrong (map (case_value t) es) ≡ []
-      → AreExprs g d (pack_exprs (filter_map fine (map (case_value t) es))) × AreCases t (exprs_types (pack_exprs (filter_map fine (map (case_value t) es))))
+      → AreWellTypedExprs g d (pack_exprs (filter_map fine (map (case_value t) es))) × AreCases t (exprs_types (pack_exprs (filter_map fine (map (case_value t) es))))
   all_cases d t [] h k none = (tt, tt)
   all_cases d t (e ∷ es) h k none =
       let front = front_fine (case_value t e) (map (case_value t) es) (case_asked t e) none in
       let rest = all_cases d t es h k.1 front.2 in
       let one = sound_case d t e front.0 h k.0 front.1 in
-      subst (λ (l : List Expr). AreExprs g d (pack_exprs l) × AreCases t (exprs_types (pack_exprs l))) (sym front.3) ((one.0, rest.0), (one.1, rest.1))
+      subst (λ (l : List Expr). AreWellTypedExprs g d (pack_exprs l) × AreCases t (exprs_types (pack_exprs l))) (sym front.3) ((one.0, rest.0), (one.1, rest.1))
 
-  pub sound_cases : (d : List ℕ) (t : Type') (es ys : List Expr) → IsSoundType w t → AllSoundValues x w g d es → each_unless [] (map (case_value t) es) ≡ Fine ys → AreExprs g d (pack_exprs ys) × AreCases t (exprs_types (pack_exprs ys))
+  pub sound_cases : (d : List ℕ) (t : Type') (es ys : List Expr) → IsSoundType w t → AllSoundValues x w g d es → fine_list [] (map (case_value t) es) ≡ Fine ys → AreWellTypedExprs g d (pack_exprs ys) × AreCases t (exprs_types (pack_exprs ys))
   sound_cases d t es ys h k is =
       let made = each_fine (map (case_value t) es) ys is in
-      subst (λ (l : List Expr). AreExprs g d (pack_exprs l) × AreCases t (exprs_types (pack_exprs l))) made.1 (all_cases d t es h k made.0)
+      subst (λ (l : List Expr). AreWellTypedExprs g d (pack_exprs l) × AreCases t (exprs_types (pack_exprs l))) made.1 (all_cases d t es h k made.0)
 
   -- ---- the values of a case
 
   joined_sound : (d : List ℕ) (o : Option Expr) (rest : Option (List Expr)) (ys : List Expr) → ((e : Expr) → o ≡ Some e → IsSoundValue w g d e) → ((es : List Expr) → rest ≡ Some es → AllSoundValues x w g d es)
-      → joined (option_map (λ v. v ∷ []) o) rest ≡ Some ys → AllSoundValues x w g d ys
+      → chained (option_map (λ v. v ∷ []) o) rest ≡ Some ys → AllSoundValues x w g d ys
   joined_sound d None rest ys h k is = absurd cc
   joined_sound d (Some e) None ys h k is = absurd cc
   joined_sound d (Some e) (Some es) ys h k is = (let same : e ∷ es ≡ ys = cc in subst (AllSoundValues x w g d) same (h e refl, k es refl))
 
-  pub sound_operands : (d : List ℕ) (s : Scope) → IsSoundScope w g d s → (es : source.Exprs) → HaveTexts es → (ys : List Expr) → operands s es ≡ Some ys → AllSoundValues x w g d ys
+  pub sound_operands : (d : List ℕ) (s : Scope) → IsSoundScope w g d s → (es : source.ExpressionList) → HaveTexts es → (ys : List Expr) → operand_list s es ≡ Some ys → AllSoundValues x w g d ys
   sound_operands d s h source.no_exprs texts ys is = (let same : [] ≡ ys = cc in subst (AllSoundValues x w g d) same tt)
   sound_operands d s h (source.some_exprs e es) texts ys is =
-      joined_sound d (operand (verdict s e)) (operands s es) ys (λ y at. x.sound_operand w g d s e h texts.0 y at) (λ zs at. sound_operands d s h es texts.1 zs at) is
+      joined_sound d (operand (verdict s e)) (operand_list s es) ys (λ y at. x.sound_operand w g d s e h texts.0 y at) (λ zs at. sound_operands d s h es texts.1 zs at) is

@@ -8,13 +8,13 @@ use Rattle.go_types.specs.declared.types.Basic.TheVariants as basics
 use Rattle.go_types.specs.declared.types.Untyped.TheVariants as kinds
 use Rattle.go_types.specs.Types.{Type', basic, array, slice, struct, named}
 use Rattle.go_typed.specs.Trees as typed
-use Rattle.go_typed.specs.Trees.{Expr, expr_type, Exprs, Stmt, if_statement, for_statement, switch_statement, range_statement, return, Source, each, pack_exprs, pack_stmts, pack_clauses, Clauses}
-use Rattle.go_meaning_laws.specs.WellTyped.{Setting, AllSuit, after, source_types, AreExprs, exprs_types, AreCases, IsStmt, AreStmts, AreClauses, IsConditionOrNone, in_loop, in_post, in_clause, is_last}
+use Rattle.go_typed.specs.Trees.{Expr, expr_type, Exprs, Stmt, if_statement, for_statement, switch_statement, range_statement, return, ValueSource, each, pack_exprs, pack_stmts, pack_clauses, Clauses}
+use Rattle.go_meaning_laws.specs.WellTyped.{Setting, AllSuit, declared_after, source_types, AreWellTypedExprs, exprs_types, AreCases, IsStmt, AreStmts, AreClauses, IsConditionOrNone, inside_loop, in_post, inside_clause, is_last_clause}
 use Rattle.go_expr.specs.Known.{Verdict, Fine, Breaks}
 use Rattle.go_expr.specs.Rules as rules
-use Rattle.go_expr.specs.Rules.{checked, condition, default_type, defaulted, each_unless}
+use Rattle.go_expr.specs.Rules.{checked, condition, default_type, defaulted, fine_list}
 use Rattle.go_expr.specs.Verdicts.{asked}
-use Rattle.go_stmt.specs.Rules.{Values, separate, together, no_values, suited_one, suited_if, suited_partly, suited, returned, conditional, loop_condition, looped, ranged, Clause, case_value, clause_of, switched, branch}
+use Rattle.go_stmt.specs.Rules.{AssignedValues, separate, together, no_values, suited_one, suited_if, suited_partly, suited, return_verdict, conditional, loop_condition, looped, ranged, SwitchClause, case_value, clause_verdict, switched, branch}
 use Rattle.go_package_laws.proofs.Soundness.{Table, IsSoundType, AreSoundTypes, IsSoundValue}
 use Rattle.go_package_laws.proofs.Expected.{Expected}
 use Rattle.go_package_laws.proofs.Values.{checked_part, own_types, AreDue, SoundDue, AreSoundValues, AllSoundValues, sound_suited}
@@ -66,10 +66,10 @@ whole_due : (due : List (Option Type')) → map (λ t. unwrap_or t None) (map So
 whole_due [] = refl
 whole_due (o ∷ os) = ap (λ l. o ∷ l) (whole_due os)
 
-abbrev counted_values : ℕ → List Expr → List (Verdict Expr) → Verdict Source
-counted_values n es vs = if nat_eq n (length es) then checked (λ es. Fine (each (pack_exprs es))) (each_unless [] vs) else Breaks Count
+abbrev counted_values : ℕ → List Expr → List (Verdict Expr) → Verdict ValueSource
+counted_values n es vs = if nat_eq n (length es) then checked (λ es. Fine (each (pack_exprs es))) (fine_list [] vs) else Breaks Count
 
-partly_whole : (due : List (Option Type')) (values : Values) → suited_partly (map Some due) values ≡ suited due values
+partly_whole : (due : List (Option Type')) (values : AssignedValues) → suited_partly (map Some due) values ≡ suited due values
 partly_whole due (separate es) =
     ap (λ n. counted_values n es (map suited_if (zip (map Some due) es))) (length-map due Some) ∙ ap (counted_values (length due) es) (each_known due es)
 partly_whole due (together ts f es) = ap (λ l. suited l (together ts f es)) (whole_due due)
@@ -77,15 +77,15 @@ partly_whole due no_values = refl
 
 module _ (x : Expected) (w : Table) (g : Setting) where
   -- a statement behind some others, which declares nothing
-  list_end : (d : List ℕ) (before : List Stmt) (s : Stmt) (y : List Stmt) → AreList w g d before → IsStmt g (behind d before) s → after (behind d before) s ≡ behind d before → before ++ s ∷ [] ≡ y → AreList w g d y × (behind d before ≡ behind d y)
+  list_end : (d : List ℕ) (before : List Stmt) (s : Stmt) (y : List Stmt) → AreList w g d before → IsStmt g (behind d before) s → declared_after (behind d before) s ≡ behind d before → before ++ s ∷ [] ≡ y → AreList w g d y × (behind d before ≡ behind d y)
   list_end d before s y h k stays same =
       subst (λ (ss : List Stmt). AreList w g d ss × (behind d before ≡ behind d ss)) same
       (more_stmts g d before (s ∷ []) h (k, tt), sym stays ∙ sym (behind_more d before (s ∷ [])))
 
-  pub sound_return : (d : List ℕ) (ts : List Type') (values : Values) (y : List Stmt) → ts ≡ g.results → AreSoundTypes w ts → AreSoundValues x w g d values → returned (map Some ts) values ≡ Fine y
+  pub sound_return : (d : List ℕ) (ts : List Type') (values : AssignedValues) (y : List Stmt) → ts ≡ g.results → AreSoundTypes w ts → AreSoundValues x w g d values → return_verdict (map Some ts) values ≡ Fine y
       → AreList w g d y × (d ≡ behind d y)
   sound_return d ts values y same sound h is =
-      let part = checked_part (λ (source : Source). Fine (return source ∷ [])) (suited_partly (map (option_map Some) (map Some ts)) values) y is in
+      let part = checked_part (λ (source : ValueSource). Fine (return source ∷ [])) (suited_partly (map (option_map Some) (map Some ts)) values) y is in
       let made : suited (map Some ts) values ≡ Fine part.0 = sym (ap (λ due. suited_partly due values) (some_mapped ts) ∙ partly_whole (map Some ts) values) ∙ part.1 in
       let suit = sound_suited x w g d (map Some ts) values part.0 (all_due w ts sound) h made in
       let done : return part.0 ∷ [] ≡ y = (let q : Fine (return part.0 ∷ []) ≡ Fine y = part.2 in cc) in
@@ -111,7 +111,7 @@ module _ (x : Expected) (w : Table) (g : Setting) where
       subst (IsConditionOrNone g d) same (x.sound_condition w g d e h part.0 part.1)
 
   pub sound_loop : (d : List ℕ) (before : List Stmt) (e : Option Expr) (post ss y : List Stmt) → AreList w g d before → SoundCondition x w g (behind d before) e → AreStmts (in_post g) (behind d before) (pack_stmts post)
-      → AreStmts (in_loop g) (behind d before) (pack_stmts ss) → looped before e post ss ≡ Fine y → AreList w g d y × (behind d before ≡ behind d y)
+      → AreStmts (inside_loop g) (behind d before) (pack_stmts ss) → looped before e post ss ≡ Fine y → AreList w g d y × (behind d before ≡ behind d y)
   sound_loop d before e post ss y h k m n is =
       let part = checked_part (λ e. Fine (before ++ for_statement e (pack_stmts post) (pack_stmts ss) ∷ [])) (loop_condition e) y is in
       list_end d before (for_statement part.0 (pack_stmts post) (pack_stmts ss)) y h (loop_sound (behind d before) e part.0 k part.1, m, n) refl
@@ -119,7 +119,7 @@ module _ (x : Expected) (w : Table) (g : Setting) where
 
   -- ---- switches
 
-  pub sound_switch : (d : List ℕ) (before : List Stmt) (e : Expr) (cs : List Clause) (y : List Stmt) → AreList w g d before → IsSoundValue w g (behind d before) e
+  pub sound_switch : (d : List ℕ) (before : List Stmt) (e : Expr) (cs : List SwitchClause) (y : List Stmt) → AreList w g d before → IsSoundValue w g (behind d before) e
       → ((t : Type') → default_type (expr_type e) ≡ t → IsSoundType w t → AreClauses g (behind d before) t (pack_clauses cs)) → switched before e cs ≡ Fine y → AreList w g d y × (behind d before ≡ behind d y)
   sound_switch d before e cs y h k m is =
       let part = checked_part (λ tag. Fine (before ++ switch_statement tag (pack_clauses cs) ∷ [])) (defaulted e) y is in
@@ -129,46 +129,46 @@ module _ (x : Expected) (w : Table) (g : Setting) where
 
   abbrev OfCases : List ℕ → Type' → Option Exprs → Type 0
   OfCases d t None = Unit {0}
-  OfCases d t (Some es) = AreExprs g d es × AreCases t (exprs_types es)
+  OfCases d t (Some es) = AreWellTypedExprs g d es × AreCases t (exprs_types es)
 
-  abbrev pub SoundClause : Option Type' → Bool → List ℕ → Clause → Type 0
-  SoundClause compared falls d k = ((k.1).1 ≡ falls) × AreStmts (in_clause g) d (k.1).0 × ((t : Type') → compared ≡ Some t → IsSoundType w t → OfCases d t k.0)
+  abbrev pub SoundClause : Option Type' → Bool → List ℕ → SwitchClause → Type 0
+  SoundClause compared falls d k = ((k.1).1 ≡ falls) × AreStmts (inside_clause g) d (k.1).0 × ((t : Type') → compared ≡ Some t → IsSoundType w t → OfCases d t k.0)
 
   abbrev pub SoundValues : List ℕ → Option (List Expr) → Type 0
   SoundValues d None = Unit {0}
   SoundValues d (Some es) = AllSoundValues x w g d es
 
-  default_clause : (compared : Option Type') (again falls : Bool) (d : List ℕ) (ss : List Stmt) (y : Clause) → AreStmts (in_clause g) d (pack_stmts ss) → clause_of compared again falls None ss ≡ Fine y → SoundClause compared falls d y
+  default_clause : (compared : Option Type') (again falls : Bool) (d : List ℕ) (ss : List Stmt) (y : SwitchClause) → AreStmts (inside_clause g) d (pack_stmts ss) → clause_verdict compared again falls None ss ≡ Fine y → SoundClause compared falls d y
   default_clause compared true falls d ss y h is = absurd cc
   default_clause compared false falls d ss y h is = (let same : (None, (pack_stmts ss, falls)) ≡ y = cc in subst (SoundClause compared falls d) same (refl, h, λ t at k. tt))
 
-  pub sound_clause : (compared : Option Type') (again falls : Bool) (d : List ℕ) (o : Option (List Expr)) (ss : List Stmt) (y : Clause) → SoundValues d o → AreStmts (in_clause g) d (pack_stmts ss) → clause_of compared again falls o ss ≡ Fine y
+  pub sound_clause : (compared : Option Type') (again falls : Bool) (d : List ℕ) (o : Option (List Expr)) (ss : List Stmt) (y : SwitchClause) → SoundValues d o → AreStmts (inside_clause g) d (pack_stmts ss) → clause_verdict compared again falls o ss ≡ Fine y
       → SoundClause compared falls d y
   sound_clause compared again falls d None ss y h k is = default_clause compared again falls d ss y k is
   sound_clause compared again falls d (Some es) ss y h k is =
-      let rule = λ (t : Type'). each_unless [] (map (case_value t) es) in
+      let rule = λ (t : Type'). fine_list [] (map (case_value t) es) in
       let part = checked_part (λ es. Fine (Some (pack_exprs es), (pack_stmts ss, falls))) (asked rule compared) y is in
       let same : (Some (pack_exprs part.0), (pack_stmts ss, falls)) ≡ y = (let q : Fine (Some (pack_exprs part.0), (pack_stmts ss, falls)) ≡ Fine y = part.2 in cc) in
       subst (SoundClause compared falls d) same (
         refl,
         k,
         λ t at sound. (
-            let there : each_unless [] (map (case_value t) es) ≡ Fine part.0 = sym (ap (asked rule) at) ∙ part.1 in
+            let there : fine_list [] (map (case_value t) es) ≡ Fine part.0 = sym (ap (asked rule) at) ∙ part.1 in
             sound_cases x w g d t es part.0 sound h there
             ),
       )
 
-  falls_off : (leads last : Bool) (cs : Clauses) → (last ≡ false → is_last cs ≡ false) → ((leads && not last) && is_last cs) ≡ false
+  falls_off : (leads last : Bool) (cs : Clauses) → (last ≡ false → is_last_clause cs ≡ false) → ((leads && not last) && is_last_clause cs) ≡ false
   falls_off false last cs h = refl
   falls_off true true cs h = refl
   falls_off true false cs h = h refl
 
-  pub front_clause : (d : List ℕ) (t : Type') (k : Clause) (cs : Clauses) (leads last : Bool) → (k.1).1 ≡ (leads && not last) → (last ≡ false → is_last cs ≡ false) → AreStmts (in_clause g) d (k.1).0
-      → ((es : Exprs) → k.0 ≡ Some es → AreExprs g d es × AreCases t (exprs_types es)) → AreClauses g d t cs → AreClauses g d t (typed.clause k.0 (k.1).0 (k.1).1 cs)
-  front_clause d t (None, (ss, falls)) cs leads last is none h k m = (h, (subst (λ (b : Bool). (b && is_last cs) ≡ false) (sym is) (falls_off leads last cs none)), m)
-  front_clause d t (Some es, (ss, falls)) cs leads last is none h k m = (let of = k es refl in (of.0, of.1, h, (subst (λ (b : Bool). (b && is_last cs) ≡ false) (sym is) (falls_off leads last cs none)), m))
+  pub front_clause : (d : List ℕ) (t : Type') (k : SwitchClause) (cs : Clauses) (leads last : Bool) → (k.1).1 ≡ (leads && not last) → (last ≡ false → is_last_clause cs ≡ false) → AreStmts (inside_clause g) d (k.1).0
+      → ((es : Exprs) → k.0 ≡ Some es → AreWellTypedExprs g d es × AreCases t (exprs_types es)) → AreClauses g d t cs → AreClauses g d t (typed.clause k.0 (k.1).0 (k.1).1 cs)
+  front_clause d t (None, (ss, falls)) cs leads last is none h k m = (h, (subst (λ (b : Bool). (b && is_last_clause cs) ≡ false) (sym is) (falls_off leads last cs none)), m)
+  front_clause d t (Some es, (ss, falls)) cs leads last is none h k m = (let of = k es refl in (of.0, of.1, h, (subst (λ (b : Bool). (b && is_last_clause cs) ≡ false) (sym is) (falls_off leads last cs none)), m))
 
-  pub of_cases : (d : List ℕ) (t : Type') (o : Option Exprs) (es : Exprs) → OfCases d t o → o ≡ Some es → AreExprs g d es × AreCases t (exprs_types es)
+  pub of_cases : (d : List ℕ) (t : Type') (o : Option Exprs) (es : Exprs) → OfCases d t o → o ≡ Some es → AreWellTypedExprs g d es × AreCases t (exprs_types es)
   of_cases d t o es h is = subst (OfCases d t) is h
 
   -- ---- ranges

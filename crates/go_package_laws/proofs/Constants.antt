@@ -188,7 +188,7 @@ shift_operands t op c d h = tt
 kind_same : (t : Type') (c : Const) → in_kind (int_kind t) c ≡ true → in_kind (kind_below (underlying t)) c ≡ true
 kind_same t c h = h
 
-fit_below : (k : Untyped) (u : Type') (c : Const) → is_of_kind k c ≡ true → relations.fits (basic (basics.Untyped k)) u ≡ true → in_kind (kind_below u) c ≡ true
+fit_below : (k : Untyped) (u : Type') (c : Const) → is_of_kind k c ≡ true → relations.kind_fits (basic (basics.Untyped k)) u ≡ true → in_kind (kind_below u) c ≡ true
     → (b : Basic) × (u ≡ basic b) × (is_constant_of b c ≡ true)
 fit_below kinds.Bool (basic basics.Bool) (Truth x) h f i = (basics.Bool, refl, refl)
 fit_below kinds.Int (basic (basics.Integer j)) (Integer z) h f i = (basics.Integer j, refl, and_from (fits (Some j) z) true i refl)
@@ -201,7 +201,7 @@ fit_below kinds.String (basic basics.String) c h f i = absurd (true≢false (sym
 fit_below k u c h f i = absurd (true≢false (sym f))
 
 -- a constant without type, of a type that its kind fits
-pub fit_constant : (k : Untyped) (t : Type') (c : Const) → is_of_kind k c ≡ true → relations.fits (basic (basics.Untyped k)) (underlying t) ≡ true → in_kind (int_kind t) c ≡ true → IsConstantOf t c
+pub fit_constant : (k : Untyped) (t : Type') (c : Const) → is_of_kind k c ≡ true → relations.kind_fits (basic (basics.Untyped k)) (underlying t) ≡ true → in_kind (int_kind t) c ≡ true → IsConstantOf t c
 fit_constant k t c h f i = fit_below k (underlying t) c h f (kind_same t c i)
 
 pub same_constant : (t u : Type') (c : Const) → underlying t ≡ underlying u → IsConstantOf t c → IsConstantOf u c

@@ -10,15 +10,15 @@ use Rattle.go_ast.specs.Trees as source
 use Rattle.go_ast.specs.Trees.{Name, TypeExpr, VarSpec}
 use Rattle.go_types.specs.Types.{Type'}
 use Rattle.go_types.specs.Relations.{underlying}
-use Rattle.go_typed.specs.Trees.{Source, zeros, Stmt, define}
-use Rattle.go_meaning_laws.specs.WellTyped.{Setting, Suits, IsWhole, AllWhole, numbers, IsSource, source_types, AreNew}
+use Rattle.go_typed.specs.Trees.{ValueSource, zeros, Stmt, define}
+use Rattle.go_meaning_laws.specs.WellTyped.{Setting, Suits, IsWhole, AllWhole, known_numbers, IsWellTypedSource, source_types, AreNew}
 use Rattle.go_expr.specs.Known.{Scope, Fine}
 use Rattle.go_expr.specs.Rules.{fine, checked}
 use Rattle.go_expr.specs.Verdicts.{asked, both, type_verdict, broken}
 use Rattle.go_scope.specs.Scopes.{is_blank}
-use Rattle.go_stmt.specs.Scopes.{Env, Context, scope_in, own, number_of, paired, declare_new, follow}
-use Rattle.go_stmt.specs.Rules.{Values, are_none, variables_source, suited}
-use Rattle.go_stmt.specs.Statements.{values_known, values_at, value_types, names_faults, names_at, written_at, place_at, variable_types, variables_at, specs_at}
+use Rattle.go_stmt.specs.Scopes.{StatementEnv, Context, scope_in, own, variable_number, paired_names, declare_new, follow}
+use Rattle.go_stmt.specs.Rules.{AssignedValues, has_no_values, variables_source, suited}
+use Rattle.go_stmt.specs.Statements.{values_known, values_at, value_types, names_faults, names_at, written_at, place_of_first, variable_types, variables_at, specs_at}
 use Rattle.go_package_laws.proofs.Completeness.Counts.{types_alone, values_fit}
 use Rattle.go_package_laws.proofs.Soundness.{Table, IsSoundType}
 use Rattle.go_package_laws.proofs.SoundNames.{IsSoundScope}
@@ -56,7 +56,7 @@ head_unfaulty false n rest h = (refl, h)
 abbrev Among : Name → List Name → Bool
 Among n ms = list_any (λ (m : Name). bytes_eq n.text m.text) ms
 
-unnamed : (env : Env) (n : Name) (before : List Name) → is_blank n.text ≡ false → (is_some (own env n) || not (is_blank n.text) && Among n before) ≡ false → (own env n ≡ None) × (Among n before ≡ false)
+unnamed : (env : StatementEnv) (n : Name) (before : List Name) → is_blank n.text ≡ false → (is_some (own env n) || not (is_blank n.text) && Among n before) ≡ false → (own env n ≡ None) × (Among n before ≡ false)
 unnamed env n before named h = elim (cases_Bool (is_some (own env n))) [
   | inl is ↦ absurd (let r : (is_some (own env n) || not (is_blank n.text) && Among n before) ≡ true = rw is refl in cc)
   | inr not_so ↦ (none_of (own env n) not_so, (let r : (is_some (own env n) || not (is_blank n.text) && Among n before) ≡ Among n before = rw (not_so, named) refl in sym r ∙ h))
@@ -69,15 +69,15 @@ module _ (w : Table) (locals : List Type') where
   Fitting (n ∷ ns) (v ∷ vs) (t ∷ ts) = Suits t v × IsSoundType w v × Fitting ns vs ts
   Fitting ns vs ts = ⊥
 
-  abbrev Kept : Env → Env → List Name → Type 0
+  abbrev Kept : StatementEnv → StatementEnv → List Name → Type 0
   Kept first env before = (m : Name) → is_blank m.text ≡ false → own first m ≡ None → Among m before ≡ false → own env m ≡ None
 
-  kept_next : (first env : Env) (before : List Name) (n : Name) (v : Type') → Kept first env before → Kept first (next n (Some v) env) (before ++ n ∷ [])
+  kept_next : (first env : StatementEnv) (before : List Name) (n : Name) (v : Type') → Kept first env before → Kept first (next n (Some v) env) (before ++ n ∷ [])
   kept_next first env before n v h m named none new =
       let parts = other_name m n before new in
       own_other n (Some v) env m parts.1 ∙ h m named none parts.0
 
-  ready_names : (ns : List Name) (vs ts : List Type') (first env : Env) (before : List Name) → names_faults first before ns ≡ [] → Kept first env before → Fitting ns vs ts → Ready w locals env ns vs ts
+  ready_names : (ns : List Name) (vs ts : List Type') (first env : StatementEnv) (before : List Name) → names_faults first before ns ≡ [] → Kept first env before → Fitting ns vs ts → Ready w locals env ns vs ts
   ready_names [] [] [] first env before none kept f = tt
   ready_names (n ∷ ns) (v ∷ vs) (t ∷ ts) first env before none kept f =
       let head = head_unfaulty (is_some (own first n) || not (is_blank n.text) && Among n before) n (names_faults first (before ++ n ∷ []) ns) none in
@@ -88,7 +88,7 @@ module _ (w : Table) (locals : List Type') where
       ]
   ready_names ns vs ts first env before none kept f = absurd f
 
-  pub ready_declared : (ns : List Name) (vs ts : List Type') (env : Env) → names_faults env [] ns ≡ [] → Fitting ns vs ts → Ready w locals env ns vs ts
+  pub ready_declared : (ns : List Name) (vs ts : List Type') (env : StatementEnv) → names_faults env [] ns ≡ [] → Fitting ns vs ts → Ready w locals env ns vs ts
   ready_declared ns vs ts env none f = ready_names ns vs ts env env [] none (λ m named free new. free) f
 
   due_none : (ns : List Name) (vs ts : List Type') → AreDue w (map (λ n. None) ns) vs ts → Fitting ns vs ts
@@ -109,11 +109,11 @@ module _ (w : Table) (locals : List Type') where
 
 -- ---- the types that values have
 
-pub types_settle : (s : Scope) (es : source.Exprs) (v : Values) → values_known s es ≡ Some v → Settle (value_types s es) (own_types v)
+pub types_settle : (s : Scope) (es : source.ExpressionList) (v : AssignedValues) → values_known s es ≡ Some v → Settle (value_types s es) (own_types v)
 types_settle s es v is = subst (λ (os : List (Option Type')). Settle os (own_types v)) (sym (types_alone s es v is)) (alone_settle v)
 
 -- of values for which nothing is due
-types_of_values : (s : Scope) (ns : List Name) (es : source.Exprs) (v : Values) (made : Source) → values_known s es ≡ Some v → suited (map (λ n. None) ns) v ≡ Fine made → value_types s es ≡ map Some (own_types v)
+types_of_values : (s : Scope) (ns : List Name) (es : source.ExpressionList) (v : AssignedValues) (made : ValueSource) → values_known s es ≡ Some v → suited (map (λ n. None) ns) v ≡ Fine made → value_types s es ≡ map Some (own_types v)
 types_of_values s ns es v made is suit = all_own ns (value_types s es) (own_types v) (values_fit s es v (map (λ n. None) ns) is (made, ap fine suit)) (types_settle s es v is)
 
 -- ---- variables
@@ -134,13 +134,13 @@ some_due : (w : Table) (u : Type') → IsSoundType w u → (ns : List Name) → 
 some_due w u h [] = tt
 some_due w u h (n ∷ ns) = (h, some_due w u h ns)
 
-written_stays : (s : Scope) (t : Option TypeExpr) (env : Env) → (written_at s t env).after ≡ env
+written_stays : (s : Scope) (t : Option TypeExpr) (env : StatementEnv) → (written_at s t env).after ≡ env
 written_stays s None env = refl
 written_stays s (Some t) env = refl
 
-sourced : (ns : List Name) (f : Source → List Stmt) (w : Option (Option Type')) (v : Option Values) (y : List Stmt)
-    → fine (asked (λ (k : List Name × (Option Type' × Values)). checked (λ source. Fine (f source)) (variables_source ns (k.1).0 (k.1).1)) (both (Some ns) (both w v))) ≡ Some y
-    → (t : Option Type') × (values : Values) × (s : Source) × (w ≡ Some t) × (v ≡ Some values) × (variables_source ns t values ≡ Fine s) × (f s ≡ y)
+sourced : (ns : List Name) (f : ValueSource → List Stmt) (w : Option (Option Type')) (v : Option AssignedValues) (y : List Stmt)
+    → fine (asked (λ (k : List Name × (Option Type' × AssignedValues)). checked (λ source. Fine (f source)) (variables_source ns (k.1).0 (k.1).1)) (both (Some ns) (both w v))) ≡ Some y
+    → (t : Option Type') × (values : AssignedValues) × (s : ValueSource) × (w ≡ Some t) × (v ≡ Some values) × (variables_source ns t values ≡ Fine s) × (f s ≡ y)
 sourced ns f None v y h = absurd cc
 sourced ns f (Some t) None y h = absurd cc
 sourced ns f (Some t) (Some values) y h =
@@ -149,21 +149,21 @@ sourced ns f (Some t) (Some values) y h =
 
 module _ (x : Expected) (w : Table) (g : Setting) where
   -- the source of new variables, of some types
-  abbrev pub Made : List ℕ → List Name → List (Option Type') → Source → Type 0
-  Made d ns types s = (vs : List Type') × (types ≡ map Some vs) × IsSource g d s × Fitting w g.locals ns vs (source_types s)
+  abbrev pub Made : List ℕ → List Name → List (Option Type') → ValueSource → Type 0
+  Made d ns types s = (vs : List Type') × (types ≡ map Some vs) × IsWellTypedSource g d s × Fitting w g.locals ns vs (source_types s)
 
-  typed_by : (d : List ℕ) (ns : List Name) (t : Option Type') (u : Type') (values : Values) (s : Source) (b : Bool) → are_none values ≡ b → t ≡ Some u → IsSoundType w u → AreSoundValues x w g d values → variables_source ns (Some u) values ≡ Fine s
+  typed_by : (d : List ℕ) (ns : List Name) (t : Option Type') (u : Type') (values : AssignedValues) (s : ValueSource) (b : Bool) → has_no_values values ≡ b → t ≡ Some u → IsSoundType w u → AreSoundValues x w g d values → variables_source ns (Some u) values ≡ Fine s
       → Made d ns (map (λ n. t) ns) s
   typed_by d ns t u values s true at is sound h made =
       let r : variables_source ns (Some u) values ≡ Fine (zeros (map (λ n. u) ns)) = rw at refl in
       let same : zeros (map (λ n. u) ns) ≡ s = cc in
-      (map (λ n. u) ns, same_types t u ns is, subst (IsSource g d) same (all_whole x w u (x.whole_type w u sound) ns), subst (λ (s : Source). Fitting w g.locals ns (map (λ n. u) ns) (source_types s)) same (zeros_fit w g.locals u sound ns))
+      (map (λ n. u) ns, same_types t u ns is, subst (IsWellTypedSource g d) same (all_whole x w u (x.whole_type w u sound) ns), subst (λ (s : ValueSource). Fitting w g.locals ns (map (λ n. u) ns) (source_types s)) same (zeros_fit w g.locals u sound ns))
   typed_by d ns t u values s false at is sound h made =
       let r : variables_source ns (Some u) values ≡ suited (map (λ n. Some u) ns) values = rw at refl in
       let suit = sound_suited x w g d (map (λ n. Some u) ns) values s (some_due w u sound ns) h (sym r ∙ made) in
       (map (λ n. u) ns, same_types t u ns is, suit.0, due_some w g.locals u sound ns (own_types values) (source_types s) suit.1)
 
-  pub made_by : (d : List ℕ) (sc : Scope) (spec : VarSpec) (env : Env) (t : Option Type') (values : Values) (s : Source) → IsSoundScope w g d sc → WrittenHasTexts spec.type → HaveTexts spec.values
+  pub made_by : (d : List ℕ) (sc : Scope) (spec : VarSpec) (env : StatementEnv) (t : Option Type') (values : AssignedValues) (s : ValueSource) → IsSoundScope w g d sc → WrittenHasTexts spec.type → HaveTexts spec.values
       → (written_at sc spec.type env).known ≡ Some t → values_known sc spec.values ≡ Some values → variables_source spec.names t values ≡ Fine s → Made d spec.names (variable_types sc spec) s
   made_by d sc spec env t values s scope texts more written known made = elim spec.type as (λ ty. spec.type ≡ ty → WrittenHasTexts ty → (written_at sc ty env).known ≡ Some t → Made d spec.names (variable_types sc spec) s) [
     | None ↦ λ at tx wr. (
@@ -183,7 +183,7 @@ module _ (x : Expected) (w : Table) (g : Setting) where
           | None ↦ λ k so ma. absurd (elim (fine (type_verdict sc ty)) as (λ o. option_map Some o ≡ Some None → ⊥) [ None ↦ λ h. cc | Some v ↦ λ h. cc ] k)
           | Some u ↦ λ k so ma. (
               let is : fine (type_verdict sc ty) ≡ Some u = elim (fine (type_verdict sc ty)) as (λ o. option_map Some o ≡ Some (Some u) → o ≡ Some u) [ None ↦ λ h. absurd cc | Some v ↦ λ h. cc ] k in
-              let r = typed_by d spec.names (fine (type_verdict sc ty)) u values s (are_none values) refl is so v ma in
+              let r = typed_by d spec.names (fine (type_verdict sc ty)) u values s (has_no_values values) refl is so v ma in
               subst (λ (k : List (Option Type')). Made d spec.names k s) (sym types) r
               )
         ] wr sound made
@@ -191,30 +191,30 @@ module _ (x : Expected) (w : Table) (g : Setting) where
   ] refl texts written
 
   -- variables with their numbers
-  pub defined : (ns : List Name) (types : List (Option Type')) (vs ts : List Type') (env : Env) (d : List ℕ) → declare_new (paired ns types) env ≡ declare_new (paired ns (map Some vs)) env → Related w g.locals env d → Lies w g.locals (declare_new (paired ns types) env) → Ready w g.locals env ns vs ts
-      → AreNew g.locals (map (number_of (declare_new (paired ns types) env)) ns) ts × Related w g.locals (declare_new (paired ns types) env) (numbers (map (number_of (declare_new (paired ns types) env)) ns) ++ d)
+  pub defined : (ns : List Name) (types : List (Option Type')) (vs ts : List Type') (env : StatementEnv) (d : List ℕ) → declare_new (paired_names ns types) env ≡ declare_new (paired_names ns (map Some vs)) env → Related w g.locals env d → Lies w g.locals (declare_new (paired_names ns types) env) → Ready w g.locals env ns vs ts
+      → AreNew g.locals (map (variable_number (declare_new (paired_names ns types) env)) ns) ts × Related w g.locals (declare_new (paired_names ns types) env) (known_numbers (map (variable_number (declare_new (paired_names ns types) env)) ns) ++ d)
   defined ns types vs ts env d is r lies ready =
-      subst (λ (final : Env). Lies w g.locals final → AreNew g.locals (map (number_of final) ns) ts × Related w g.locals final (numbers (map (number_of final) ns) ++ d)) (sym is)
+      subst (λ (final : StatementEnv). Lies w g.locals final → AreNew g.locals (map (variable_number final) ns) ts × Related w g.locals final (known_numbers (map (variable_number final) ns) ++ d)) (sym is)
       (λ l. new_related w g.locals ns vs ts env d r l ready) lies
 
   pub variables_sure : (c : Context) → Outside w g c → (p : Place) (spec : VarSpec) → WrittenHasTexts spec.type → HaveTexts spec.values → Sure w g.locals behind (AreList w g) (variables_at c p spec)
   variables_sure c out p spec texts more env =
       let s = scope_in c None env in
       let types = variable_types s spec in
-      let final = declare_new (paired spec.names types) env in
-      let f = λ (source : Source). define (map (number_of final) spec.names) source ∷ [] in
-      let rule = λ (k : List Name × (Option Type' × Values)). checked (λ source. Fine (f source)) (variables_source spec.names (k.1).0 (k.1).1) in
+      let final = declare_new (paired_names spec.names types) env in
+      let f = λ (source : ValueSource). define (map (variable_number final) spec.names) source ∷ [] in
+      let rule = λ (k : List Name × (Option Type' × AssignedValues)). checked (λ source. Fine (f source)) (variables_source spec.names (k.1).0 (k.1).1) in
       let rest = follow (written_at s spec.type) (values_at c spec.values) in
       let parts = follow (names_at spec.names) rest in (
-        new_grows (paired spec.names types) env,
+        new_grows (paired_names spec.names types) env,
         λ d r lies none y is. (
-            let ns = two_none (parts env).faults (broken (place_at p spec.names) (asked rule (parts env).known)) none in
+            let ns = two_none (parts env).faults (broken (place_of_first p spec.names) (asked rule (parts env).known)) none in
             let names = (two_none (names_faults env [] spec.names) (rest env).faults ns.0).0 in
             let written = (written_at s spec.type env).known in
-            let here = subst (λ (e : Env). fine (asked rule (both (Some spec.names) (both written (values_at c spec.values e).known))) ≡ Some y) (written_stays s spec.type env) is in
+            let here = subst (λ (e : StatementEnv). fine (asked rule (both (Some spec.names) (both written (values_at c spec.values e).known))) ≡ Some y) (written_stays s spec.type env) is in
             let k = sourced spec.names f written (values_known s spec.values) y here in
             let made = made_by d s spec env k.0 k.1 k.2 (scope_sound w g c out env d r None) texts more k.3 k.4 k.5 in
-            let new = defined spec.names types made.0 (source_types k.2) env d (ap (λ ts. declare_new (paired spec.names ts) env) made.1) r lies (ready_declared w g.locals spec.names made.0 (source_types k.2) env names made.3) in
+            let new = defined spec.names types made.0 (source_types k.2) env d (ap (λ ts. declare_new (paired_names spec.names ts) env) made.1) r lies (ready_declared w g.locals spec.names made.0 (source_types k.2) env names made.3) in
             subst (λ (ss : List Stmt). AreList w g d ss × Related w g.locals final (behind d ss)) k.6 (((made.2, new.0), tt), new.1)
             ),
       )

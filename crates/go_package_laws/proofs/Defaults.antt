@@ -5,7 +5,7 @@ use Rattle.go_types.specs.declared.types.Untyped.{Untyped}
 use Rattle.go_types.specs.declared.types.Untyped.TheVariants as kinds
 use Rattle.go_types.specs.Types.{Type', basic, array, slice, struct, named}
 use Rattle.go_types.specs.Relations.{underlying}
-use Rattle.go_meaning_laws.specs.WellTyped.{is_bool, is_integer, is_string}
+use Rattle.go_meaning_laws.specs.WellTyped.{is_bool_type, is_integer_type, is_string_type}
 use Rattle.go_expr.specs.Rules as rules
 use Rattle.go_expr.specs.Rules.{default_type, is_untyped}
 use Rattle.go_package_laws.proofs.Soundness.{Table, IsSoundType}
@@ -20,28 +20,28 @@ string_below u = elim u [ basic basics.String ↦ true | basic (basics.Untyped k
 abbrev bool_below : Type' → Bool
 bool_below u = elim u [ basic basics.Bool ↦ true | basic (basics.Untyped kinds.Bool) ↦ true | _ ↦ false ]
 
-integer_typed : (w : Table) (u : Type') → IsSoundType w u → integer_below u ≡ true → is_integer u ≡ true
+integer_typed : (w : Table) (u : Type') → IsSoundType w u → integer_below u ≡ true → is_integer_type u ≡ true
 integer_typed w (basic (basics.Integer i)) h e = refl
 integer_typed w (basic (basics.Untyped k)) h e = absurd (true≢false (sym h))
 integer_typed w u h e = absurd (true≢false (sym e))
 
-string_typed : (w : Table) (u : Type') → IsSoundType w u → string_below u ≡ true → is_string u ≡ true
+string_typed : (w : Table) (u : Type') → IsSoundType w u → string_below u ≡ true → is_string_type u ≡ true
 string_typed w (basic basics.String) h e = refl
 string_typed w (basic (basics.Untyped k)) h e = absurd (true≢false (sym h))
 string_typed w u h e = absurd (true≢false (sym e))
 
-bool_typed : (u : Type') → bool_below u ≡ true → is_bool u ≡ true
+bool_typed : (u : Type') → bool_below u ≡ true → is_bool_type u ≡ true
 bool_typed (basic basics.Bool) e = refl
 bool_typed (basic (basics.Untyped kinds.Bool)) e = refl
 bool_typed u e = absurd (true≢false (sym e))
 
-pub sound_integer : (w : Table) (t : Type') → IsSoundType w t → rules.is_integer t ≡ true → is_integer (underlying t) ≡ true
+pub sound_integer : (w : Table) (t : Type') → IsSoundType w t → rules.is_integer t ≡ true → is_integer_type (underlying t) ≡ true
 sound_integer w t h e = integer_typed w (underlying t) (sound_underlying w t h) e
 
-pub sound_string : (w : Table) (t : Type') → IsSoundType w t → rules.is_string t ≡ true → is_string (underlying t) ≡ true
+pub sound_string : (w : Table) (t : Type') → IsSoundType w t → rules.is_string t ≡ true → is_string_type (underlying t) ≡ true
 sound_string w t h e = string_typed w (underlying t) (sound_underlying w t h) e
 
-pub sound_bool : (t : Type') → rules.is_bool t ≡ true → is_bool (underlying t) ≡ true
+pub sound_bool : (t : Type') → rules.is_bool t ≡ true → is_bool_type (underlying t) ≡ true
 sound_bool t e = bool_typed (underlying t) e
 
 -- ---- the types that are taken where none is due

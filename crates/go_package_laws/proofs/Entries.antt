@@ -10,9 +10,9 @@ use Rattle.go_const.specs.declared.constant.Const.TheVariants.{Integer, Bool as 
 use Rattle.go_types.specs.declared.types.Basic.{Basic}
 use Rattle.go_types.specs.declared.types.Untyped.TheVariants as kinds
 use Rattle.go_types.specs.Types.{basic}
-use Rattle.go_expr.specs.Known.{Declared, type', Names, Known, declared, package', Verdict, Fine, Breaks, Passed, look_up, named, basic_types, left_out, slice_functions, others, truth, universe}
-use Rattle.go_expr.specs.Seen.{iota_of}
-use Rattle.go_objects.specs.Table.{Package, imports_at, scope_at}
+use Rattle.go_expr.specs.Known.{Declared, type', Names, Known, declared, package', Verdict, Fine, Breaks, Passed, look_up_known, named, basic_types, left_out, slice_functions, others, truth, universe}
+use Rattle.go_expr.specs.Views.{iota_of}
+use Rattle.go_objects.specs.Table.{PackageTable, imports_at, scope_at}
 use Rattle.go_meaning_laws.specs.WellTyped.{Setting, is_typed}
 use Rattle.go_package_laws.proofs.Soundness.{Table, IsSoundDeclared, AreSoundNames}
 use Rattle.go_package_laws.proofs.SoundNames.{IsSoundKnown, IsSoundScope}
@@ -33,7 +33,7 @@ module _ (w : Table) (g : Setting) (d : List ℕ) where
   more [] ms h k = k
   more (n ∷ ns) ms h k = (h.0, more ns ms h.1 k)
 
-  found : (ns : Entries) → AllSound ns → (x : List ℕ) → IsSoundVerdict (look_up x ns)
+  found : (ns : Entries) → AllSound ns → (x : List ℕ) → IsSoundVerdict (look_up_known x ns)
   found [] h x = tt
   found ((y, v) ∷ ns) h x = elim (cases_Bool (bytes_eq x y)) [ inl is ↦ rw is h.0 | inr not_so ↦ rw not_so (found ns h.1 x) ]
 
@@ -88,7 +88,7 @@ module _ (w : Table) (g : Setting) (d : List ℕ) where
   told (Breaks kind) k e h = absurd cc
   told Passed k e h = absurd cc
 
-  pub scope_sound : (p : Package) (known : Names) (file : ℕ) (iota : Option ℕ) → w.plain p.path ≡ true → AllImports (imports_at p file) → TableSound known → IsSoundScope w g d (scope_at p known file iota)
+  pub scope_sound : (p : PackageTable) (known : Names) (file : ℕ) (iota : Option ℕ) → w.plain p.path ≡ true → AllImports (imports_at p file) → TableSound known → IsSoundScope w g d (scope_at p known file iota)
   scope_sound p known file iota plain imported h = (
     plain,
     λ x k is.

@@ -4,13 +4,13 @@ use Rattle.std.specs.List.{slice_get}
 use Rattle.std.specs.Prelude.{ℕ}
 use Rattle.go_text.specs.declared.edition.Edition.{Edition}
 use Rattle.go_ast.specs.Trees.{File}
-use Rattle.go_objects.specs.Objects.{Object, firsts, objects_from}
-use Rattle.go_objects.specs.Table.{Package}
+use Rattle.go_objects.specs.Objects.{DeclaredObject, firsts, objects_from}
+use Rattle.go_objects.specs.Table.{PackageTable}
 use Rattle.go_package.specs.Faults.{Facts}
 use Rattle.go_package.specs.Imports.{Importable}
 use Rattle.go_package.specs.Packages.{package_faults, package_in, AreFacts}
 use Rattle.go_package.proofs.Whole.{no_faults}
-use Rattle.go_package_laws.specs.Finds.{AreWhole}
+use Rattle.go_package_laws.specs.Finds.{AllImportsAreKnown}
 use Rattle.go_package_laws.proofs.Completeness.Apart.{AreApart}
 use Rattle.go_package_laws.proofs.Completeness.Known.{given, objects_known}
 use Rattle.go_package_laws.proofs.Completeness.Packages.{functions_known}
@@ -21,9 +21,9 @@ use Rattle.go_package_laws.proofs.Found.{LocalFiles}
 use Rattle.go_package_laws.proofs.Links.{Checked}
 
 abbrev exported : List Importable → Type 0
-exported ps = AreWhole (map (λ (p : Importable). (p.path, p.exports)) ps)
+exported ps = AllImportsAreKnown (map (λ (p : Importable). (p.path, p.exports)) ps)
 
-form_texts : (files : List File) → FilesHaveTexts files → (k : ℕ) (o : Object) → slice_get (firsts [] (objects_from 0 files)) k ≡ Some o → HasFormTexts o
+form_texts : (files : List File) → FilesHaveTexts files → (k : ℕ) (o : DeclaredObject) → slice_get (firsts [] (objects_from 0 files)) k ≡ Some o → HasFormTexts o
 form_texts files texts k o at = all_at HasFormTexts (firsts [] (objects_from 0 files)) k o (all_firsts HasFormTexts [] (objects_from 0 files) (files_texts 0 files texts)) at
 
 -- what holds of a package without fault
@@ -31,7 +31,7 @@ pub checked : (edition : Edition) (path : List ℕ) (files : List File) (ps : Li
 checked edition path files ps t whole are none local texts named apart =
     let h = given edition path files ps t whole are none in
     let known = objects_known edition path files ps t whole are none in
-    let objects = ap (λ (q : Package). q.objects) are.package_is in
+    let objects = ap (λ (q : PackageTable). q.objects) are.package_is in
     record {
       told = record {
         table = h.table;

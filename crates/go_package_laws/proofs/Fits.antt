@@ -3,8 +3,8 @@ use Rattle.std.proofs.Common.{◌≡◌, ℕ, zero, suc, true, false, ◌||◌, 
 use Rattle.std.specs.Prelude.{bytes_eq, option_map, unwrap_or}
 use Rattle.std.specs.List.{slice_get, list_any, flat_map}
 use Rattle.std.proofs.lemmas.Bool.{cases_Bool}
-use Rattle.go_ast.specs.Trees.{Name, TypeExpr, Expr, Exprs, no_exprs, some_exprs, ConstSpec, VarSpec, TypeSpec, Decl, constants, variables, types, TopLevel, declared, function, File}
-use Rattle.go_objects.specs.Objects.{Form, constant, function', Object, paired, begin_of, other_object, unpaired, constants_of, in_group, typed_object, valued_object, result_objects, uncounted, variables_of, type_object, objects_in, objects_from, firsts}
+use Rattle.go_ast.specs.Trees.{Name, TypeExpr, Expression, ExpressionList, no_exprs, some_exprs, ConstSpec, VarSpec, TypeSpec, Decl, constants, variables, types, TopLevel, declared, function, File}
+use Rattle.go_objects.specs.Objects.{Form, constant, function', DeclaredObject, paired, begin_of, other_object, unpaired, constants_of, in_group, typed_object, valued_object, result_objects, uncounted, variables_of, type_object, objects_in, objects_from, firsts}
 use Rattle.go_package_laws.proofs.Texts.{HasTexts, HaveTexts, TypeHasTexts}
 use Rattle.go_package_laws.proofs.BodyTexts.{WrittenHasTexts, ConstantsHaveTexts, VariablesHaveTexts}
 use Rattle.go_package_laws.proofs.DeclaredTexts.{TypesHaveTexts, TopHasTexts, TopsHaveTexts, FilesHaveTexts}
@@ -14,20 +14,20 @@ abbrev pub is_function : Form → Bool
 is_function (function' ps ts) = true
 is_function form = false
 
-abbrev pub AllIn : (Object → Type 0) → List Object → Type 0
+abbrev pub AllIn : (DeclaredObject → Type 0) → List DeclaredObject → Type 0
 AllIn P [] = Unit {0}
 AllIn P (o ∷ os) = P o × AllIn P os
 
-pub all_more : (P : Object → Type 0) (os us : List Object) → AllIn P os → AllIn P us → AllIn P (os ++ us)
+pub all_more : (P : DeclaredObject → Type 0) (os us : List DeclaredObject) → AllIn P os → AllIn P us → AllIn P (os ++ us)
 all_more P [] us h k = k
 all_more P (o ∷ os) us h k = (h.0, all_more P os us h.1 k)
 
-pub all_at : (P : Object → Type 0) (os : List Object) (k : ℕ) (o : Object) → AllIn P os → slice_get os k ≡ Some o → P o
+pub all_at : (P : DeclaredObject → Type 0) (os : List DeclaredObject) (k : ℕ) (o : DeclaredObject) → AllIn P os → slice_get os k ≡ Some o → P o
 all_at P [] k o h at = absurd cc
 all_at P (x ∷ os) zero o h at = (let same : x ≡ o = cc in subst P same h.0)
 all_at P (x ∷ os) (suc k) o h at = all_at P os k o h.1 at
 
-pub all_firsts : (P : Object → Type 0) (names : List (List ℕ)) (os : List Object) → AllIn P os → AllIn P (firsts names os)
+pub all_firsts : (P : DeclaredObject → Type 0) (names : List (List ℕ)) (os : List DeclaredObject) → AllIn P os → AllIn P (firsts names os)
 all_firsts P names [] h = tt
 all_firsts P names (o ∷ os) h = elim (cases_Bool (bytes_eq o.name.text (codes "_") || list_any (bytes_eq o.name.text) names)) [
   | inl out ↦ rw out (all_firsts P names os h.1)
@@ -40,35 +40,35 @@ module _ (Q : Name → Type 0) where
   AllNames [] = Unit {0}
   AllNames (n ∷ ns) = Q n × AllNames ns
 
-  abbrev pub Fits : Object → Type 0
+  abbrev pub Fits : DeclaredObject → Type 0
   Fits o = FormHasTexts o.form × (is_function o.form ≡ false) × Q o.name × IsWellNamed o
 
-  abbrev ManyFit : Option (List Object) → Type 0
+  abbrev ManyFit : Option (List DeclaredObject) → Type 0
   ManyFit None = Unit {0}
   ManyFit (Some os) = AllIn Fits os
 
-  one_more : (o : Object) (os : Option (List Object)) → Fits o → ManyFit os → ManyFit (option_map (λ xs. o ∷ xs) os)
+  one_more : (o : DeclaredObject) (os : Option (List DeclaredObject)) → Fits o → ManyFit os → ManyFit (option_map (λ xs. o ∷ xs) os)
   one_more o None h k = tt
   one_more o (Some os) h k = (h, k)
 
-  paired_fit : (f : Name → Expr → Object) → ((n : Name) (e : Expr) → Q n → HasTexts e → Fits (f n e)) → (ns : List Name) (es : Exprs) → AllNames ns → HaveTexts es → ManyFit (paired f ns es)
+  paired_fit : (f : Name → Expression → DeclaredObject) → ((n : Name) (e : Expression) → Q n → HasTexts e → Fits (f n e)) → (ns : List Name) (es : ExpressionList) → AllNames ns → HaveTexts es → ManyFit (paired f ns es)
   paired_fit f each [] no_exprs h k = tt
   paired_fit f each [] (some_exprs e es) h k = tt
   paired_fit f each (n ∷ ns) no_exprs h k = tt
   paired_fit f each (n ∷ ns) (some_exprs e es) h k = one_more (f n e) (paired f ns es) (each n e h.0 k.0) (paired_fit f each ns es h.1 k.1)
 
-  others_fit : (file : ℕ) (all : List Name) (t : Option TypeExpr) (es : Exprs) (ns : List Name) → AllNames ns → AllIn Fits (map (other_object file all t es) ns)
+  others_fit : (file : ℕ) (all : List Name) (t : Option TypeExpr) (es : ExpressionList) (ns : List Name) → AllNames ns → AllIn Fits (map (other_object file all t es) ns)
   others_fit file all t es [] h = tt
   others_fit file all t es (n ∷ ns) h = ((tt, refl, h.0, tt), others_fit file all t es ns h.1)
 
-  unpaired_fit : (file : ℕ) (t : Option TypeExpr) (es : Exprs) (ns : List Name) → AllNames ns → AllIn Fits (unpaired file t es ns)
+  unpaired_fit : (file : ℕ) (t : Option TypeExpr) (es : ExpressionList) (ns : List Name) → AllNames ns → AllIn Fits (unpaired file t es ns)
   unpaired_fit file t es ns h = others_fit file ns t es ns h
 
-  either_fits : (a : Option (List Object)) (b : List Object) → ManyFit a → AllIn Fits b → AllIn Fits (unwrap_or a b)
+  either_fits : (a : Option (List DeclaredObject)) (b : List DeclaredObject) → ManyFit a → AllIn Fits b → AllIn Fits (unwrap_or a b)
   either_fits None b h k = k
   either_fits (Some os) b h k = h
 
-  constants_fit : (file iota : ℕ) (ns : List Name) (t : Option TypeExpr) (es : Exprs) → AllNames ns → WrittenHasTexts t → HaveTexts es → AllIn Fits (constants_of file iota (record { names = ns; type = t; values = es }))
+  constants_fit : (file iota : ℕ) (ns : List Name) (t : Option TypeExpr) (es : ExpressionList) → AllNames ns → WrittenHasTexts t → HaveTexts es → AllIn Fits (constants_of file iota (record { names = ns; type = t; values = es }))
   constants_fit file iota ns t es h a b =
       either_fits (paired (λ n e. record { file = file; begins = begin_of ns n; name = n; form = constant t e iota }) ns es) (unpaired file t es ns)
       (paired_fit (λ n e. record { file = file; begins = begin_of ns n; name = n; form = constant t e iota }) (λ n e q k. ((a, k), refl, q, tt)) ns es h b) (unpaired_fit file t es ns h)
@@ -77,7 +77,7 @@ module _ (Q : Name → Type 0) where
   ConstantNames [] = Unit {0}
   ConstantNames (s ∷ ss) = AllNames s.names × ConstantNames ss
 
-  one_group : (file iota : ℕ) (before : ConstSpec) (ns : List Name) (t : Option TypeExpr) (es : Exprs) (ss : List ConstSpec) → WrittenHasTexts before.type → HaveTexts before.values → AllNames ns → WrittenHasTexts t → HaveTexts es
+  one_group : (file iota : ℕ) (before : ConstSpec) (ns : List Name) (t : Option TypeExpr) (es : ExpressionList) (ss : List ConstSpec) → WrittenHasTexts before.type → HaveTexts before.values → AllNames ns → WrittenHasTexts t → HaveTexts es
       → ((m : ConstSpec) → WrittenHasTexts m.type → HaveTexts m.values → AllIn Fits (in_group file (suc iota) m ss)) → AllIn Fits (in_group file iota before (record { names = ns; type = t; values = es } ∷ ss))
   one_group file iota before ns t no_exprs ss a b h k l rest =
       let m : ConstSpec = record { names = ns; type = before.type; values = before.values } in
@@ -95,16 +95,16 @@ module _ (Q : Name → Type 0) where
   typed_fit file all t [] h k = tt
   typed_fit file all t (n ∷ ns) h k = ((k, refl, h.0, tt), typed_fit file all t ns h.1 k)
 
-  results_fit : (file : ℕ) (all : List Name) (number : ℕ) (e : Expr) (ns : List Name) → AllNames ns → HasTexts e → AllIn Fits (result_objects file all number e ns)
+  results_fit : (file : ℕ) (all : List Name) (number : ℕ) (e : Expression) (ns : List Name) → AllNames ns → HasTexts e → AllIn Fits (result_objects file all number e ns)
   results_fit file all number e [] h k = tt
   results_fit file all number e (n ∷ ns) h k = ((k, refl, h.0, tt), results_fit file all (suc number) e ns h.1 k)
 
-  uncounted_fit : (file : ℕ) (ns : List Name) (es : Exprs) → AllNames ns → HaveTexts es → AllIn Fits (uncounted file ns es)
+  uncounted_fit : (file : ℕ) (ns : List Name) (es : ExpressionList) → AllNames ns → HaveTexts es → AllIn Fits (uncounted file ns es)
   uncounted_fit file ns no_exprs h k = unpaired_fit file None no_exprs ns h
   uncounted_fit file ns (some_exprs e no_exprs) h k = results_fit file ns 0 e ns h k.0
   uncounted_fit file ns (some_exprs e (some_exprs f es)) h k = unpaired_fit file None (some_exprs e (some_exprs f es)) ns h
 
-  variables_fit : (file : ℕ) (ns : List Name) (t : Option TypeExpr) (es : Exprs) → AllNames ns → WrittenHasTexts t → HaveTexts es → AllIn Fits (variables_of file (record { names = ns; type = t; values = es }))
+  variables_fit : (file : ℕ) (ns : List Name) (t : Option TypeExpr) (es : ExpressionList) → AllNames ns → WrittenHasTexts t → HaveTexts es → AllIn Fits (variables_of file (record { names = ns; type = t; values = es }))
   variables_fit file ns (Some t) es h a b = typed_fit file ns t ns h a
   variables_fit file ns None es h a b =
       either_fits (paired (valued_object file ns) ns es) (uncounted file ns es) (paired_fit (valued_object file ns) (λ n e q k. (k, refl, q, tt)) ns es h b) (uncounted_fit file ns es h b)
@@ -162,10 +162,10 @@ decl_fits_any file (types p ss) k = decl_fits Any file (types p ss) (any_types s
 
 -- ---- all objects have texts, and words for names of types
 
-abbrev pub HasFormTexts : Object → Type 0
+abbrev pub HasFormTexts : DeclaredObject → Type 0
 HasFormTexts o = FormHasTexts o.form × IsWellNamed o
 
-forget : (os : List Object) → AllIn (Fits Any) os → AllIn HasFormTexts os
+forget : (os : List DeclaredObject) → AllIn (Fits Any) os → AllIn HasFormTexts os
 forget [] h = tt
 forget (o ∷ os) h = (((h.0).0, (h.0).3), forget os h.1)
 

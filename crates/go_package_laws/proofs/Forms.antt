@@ -14,11 +14,11 @@ use Rattle.go_types.specs.Types.{Type', basic, array, slice, struct, named}
 use Rattle.go_types.specs.Relations.{underlying}
 use Rattle.go_typed.specs.Trees.{Symbol, Expr, Exprs, constant, global, expr_type}
 use Rattle.go_expr.specs.Known.{Declared, value, type', function, Known, declared, package', results, printed, panicked, Verdict, Fine, Breaks, Passed, Scope}
-use Rattle.go_expr.specs.Rules.{fine, valued, constant_due, assigned, default_type, settled_type, is_small, differ}
-use Rattle.go_expr.specs.Verdicts.{asked, asked_both, joined, operand, verdict, type_verdict}
+use Rattle.go_expr.specs.Rules.{fine, valued, constant_due, assigned, default_type, settled_type, is_small, are_distinct}
+use Rattle.go_expr.specs.Verdicts.{asked, asked_both, chained, operand, verdict, type_verdict}
 use Rattle.go_objects.specs.Objects as forms
-use Rattle.go_objects.specs.Objects.{Form, Object}
-use Rattle.go_objects.specs.Table.{value_of, named_type, result_type, variable, types_known, parameters_known, parameter_names, form_verdict, declared_in}
+use Rattle.go_objects.specs.Objects.{Form, DeclaredObject}
+use Rattle.go_objects.specs.Table.{declared_value, named_type, call_result_type, variable, types_known, parameters_known, parameter_names, form_verdict, declared_in}
 use Rattle.go_meaning_laws.specs.WellTyped.{Setting, IsCall}
 use Rattle.go_package_laws.proofs.Soundness.{Table, IsNamed, IsSoundType, AreSoundTypes, IsTypedValue, IsSoundValue, IsSoundDeclared}
 use Rattle.go_package_laws.proofs.SoundNames.{IsSoundScope}
@@ -81,11 +81,11 @@ due_is (constant t c) y h = (t, c, refl, cc (h))
 due_is x y h = absurd cc
 
 -- a constant's value
-pub constant_parts : (s : Scope) (t : Option TypeExpr) (v : source.Expr) (iota : ℕ) (x : Symbol) (e : Declared) → form_verdict s x (forms.constant t v iota) ≡ Fine (declared e)
-    → (u : Type') × (c : Const) × (value_of s t v ≡ Some (constant u c)) × (e ≡ value (constant u c))
+pub constant_parts : (s : Scope) (t : Option TypeExpr) (v : source.Expression) (iota : ℕ) (x : Symbol) (e : Declared) → form_verdict s x (forms.constant t v iota) ≡ Fine (declared e)
+    → (u : Type') × (c : Const) × (declared_value s t v ≡ Some (constant u c)) × (e ≡ value (constant u c))
 constant_parts s t v iota x e h =
-    let one = valued_is (asked constant_due (value_of s t v)) e h in
-    let two = asked_parts constant_due (value_of s t v) one.0 one.1 in
+    let one = valued_is (asked constant_due (declared_value s t v)) e h in
+    let two = asked_parts constant_due (declared_value s t v) one.0 one.1 in
     let three = due_is two.0 one.0 two.2 in
     (three.0, three.1, two.1 ∙ ap Some three.2, sym one.2 ∙ ap value three.3)
 
@@ -102,7 +102,7 @@ type_parts path name (Some u) e h = elim (cases_Bool (is_small (named path name 
 
 pub function_parts : (s : Scope) (x : Symbol) (ps : List Parameter) (ts : List TypeExpr) (e : Declared) → form_verdict s x (forms.function' ps ts) ≡ Fine (declared e)
     → (us rs : List Type') × (parameters_known s ps ≡ Some us) × (types_known s ts ≡ Some rs) × (e ≡ function x us rs)
-function_parts s x ps ts e h = elim (cases_Bool (differ (parameter_names ps))) [
+function_parts s x ps ts e h = elim (cases_Bool (are_distinct (parameter_names ps))) [
   | inl is ↦ (
       let parts = both_asked (λ us rs. Fine (declared (function x us rs))) (parameters_known s ps) (types_known s ts) (declared e) (rw is at h) in
       (parts.0, parts.1, parts.2, parts.3, sym (same_declared (function x parts.0 parts.1) e parts.4)))
@@ -114,7 +114,7 @@ shaped s x (forms.constant t v iota) e h = (let parts = constant_parts s t v iot
 shaped s x (forms.type' t) e h = (let parts = type_parts x.path x.name (fine (type_verdict s t)) e h in (underlying parts.0, parts.2))
 shaped s x (forms.typed_variable t) e h = (let parts = variable_parts x (fine (type_verdict s t)) e h in (parts.0, parts.2))
 shaped s x (forms.valued_variable v) e h = (let parts = variable_parts x (option_and_then settled_type (operand (verdict s v))) e h in (parts.0, parts.2))
-shaped s x (forms.result_variable number count v) e h = (let parts = variable_parts x (result_type number count (fine (verdict s v))) e h in (parts.0, parts.2))
+shaped s x (forms.result_variable number count v) e h = (let parts = variable_parts x (call_result_type number count (fine (verdict s v))) e h in (parts.0, parts.2))
 shaped s x (forms.function' ps ts) e h = (let parts = function_parts s x ps ts e h in (parts.0, parts.1, parts.4))
 shaped s x (forms.other t es) e h = absurd cc
 
@@ -148,7 +148,7 @@ type_at w (u ∷ us) zero t h at = (let same : u ≡ t = cc in subst (IsSoundTyp
 type_at w (u ∷ us) (suc n) t h at = type_at w us n t h.1 at
 
 -- the type of one of the results of a call
-result_is : (number count : ℕ) (k : Option Known) (t : Type') → result_type number count k ≡ Some t → (ts : List Type') × (s : Symbol) × (es : Exprs) × (k ≡ Some (results ts s es)) × (slice_get ts number ≡ Some t)
+result_is : (number count : ℕ) (k : Option Known) (t : Type') → call_result_type number count k ≡ Some t → (ts : List Type') × (s : Symbol) × (es : Exprs) × (k ≡ Some (results ts s es)) × (slice_get ts number ≡ Some t)
 result_is number count (Some (results ts s es)) t h = elim (cases_Bool (nat_eq (length ts) count)) [
   | inl is ↦ (ts, s, es, refl, rw is at h)
   | inr not_so ↦ absurd (let no : None ≡ Some t = rw not_so at h in cc (no))
@@ -163,7 +163,7 @@ types_more : (w : Table) (ts us : List Type') → AreSoundTypes w ts → AreSoun
 types_more w [] us h k = k
 types_more w (t ∷ ts) us h k = (h.0, types_more w ts us h.1 k)
 
-joined_is : {A : Type 0} (a b : Option (List A)) (c : List A) → joined a b ≡ Some c → (x y : List A) × (a ≡ Some x) × (b ≡ Some y) × (c ≡ x ++ y)
+joined_is : {A : Type 0} (a b : Option (List A)) (c : List A) → chained a b ≡ Some c → (x y : List A) × (a ≡ Some x) × (b ≡ Some y) × (c ≡ x ++ y)
 joined_is None b c h = absurd cc
 joined_is (Some x) None c h = absurd cc
 joined_is (Some x) (Some y) c h = (x, y, refl, refl, cc)
@@ -188,7 +188,7 @@ abbrev pub IsNamedFor : List ℕ → Form → Type 0
 IsNamedFor x (forms.type' t) = IsWord x
 IsNamedFor x form = Unit {0}
 
-abbrev pub IsWellNamed : Object → Type 0
+abbrev pub IsWellNamed : DeclaredObject → Type 0
 IsWellNamed o = IsNamedFor o.name.text o.form
 
 -- what else holds of what the package declares, because the program has it
@@ -204,7 +204,7 @@ IsSoundOwn w g d (value (global t s)) = IsTypedValue w g d (global t s)
 IsSoundOwn w g d k = IsSoundDeclared w g d k
 
 module _ (known : Expected) (w : Table) (g : Setting) (d : List ℕ) where
-  value_sound : (s : Scope) → IsSoundScope w g d s → (t : Option TypeExpr) (v : source.Expr) → WrittenHasTexts t → HasTexts v → (x : Expr) → value_of s t v ≡ Some x → IsSoundValue w g d x
+  value_sound : (s : Scope) → IsSoundScope w g d s → (t : Option TypeExpr) (v : source.Expression) → WrittenHasTexts t → HasTexts v → (x : Expr) → declared_value s t v ≡ Some x → IsSoundValue w g d x
   value_sound s h None v a b x is = known.sound_operand w g d s v h b x is
   value_sound s h (Some t) v a b x is =
       let parts = both_asked assigned (fine (type_verdict s t)) (operand (verdict s v)) x (fine_is _ x is) in
@@ -258,7 +258,7 @@ module _ (known : Expected) (w : Table) (g : Setting) (d : List ℕ) where
       let of = default_value w g d one.0 (known.sound_operand w g d s v h a one.0 one.1) in
       variable_sound x parts.0 e parts.2 (subst (IsSoundType w) (sym one.2) of) l
   form_sound s x (forms.result_variable number count v) h a e is l =
-      let parts = variable_parts x (result_type number count (fine (verdict s v))) e is in
+      let parts = variable_parts x (call_result_type number count (fine (verdict s v))) e is in
       let one = result_is number count (fine (verdict s v)) parts.0 parts.1 in
       let call = known.sound_known w g d s v h a (results one.0 one.1 one.2) (fine_is (verdict s v) _ one.3) in
       variable_sound x parts.0 e parts.2 (type_at w one.0 number parts.0 call.2 one.4) l

@@ -5,20 +5,20 @@ use Rattle.std.specs.List.{slice_get}
 use Rattle.std.proofs.lemmas.Bool.{cases_Bool, eqb-true}
 use Rattle.std.proofs.lemmas.Bool.Decides.{Decides-eqb}
 use Rattle.go_text.specs.declared.fault.FaultKind.TheVariants.{NoReturn}
-use Rattle.go_ast.specs.Trees.{Name, TypeExpr, Block, block, Parameter, Function}
+use Rattle.go_ast.specs.Trees.{Name, TypeExpr, Block, block, Parameter, FunctionDecl}
 use Rattle.go_types.specs.Types.{Type'}
 use Rattle.go_typed.specs.Trees as typed
 use Rattle.go_typed.specs.Trees.{Symbol, local, Package, pack_stmts}
-use Rattle.go_meaning_laws.specs.WellTyped.{Setting, has, first, AreStmts, signature_at, variable_at, are_none, IsFunction}
+use Rattle.go_meaning_laws.specs.WellTyped.{Setting, has, first, AreStmts, signature_at, variable_at, are_none, IsWellTypedFunction}
 use Rattle.go_expr.specs.Known.{value, Fine, Breaks}
 use Rattle.go_expr.specs.Rules.{fine}
 use Rattle.go_expr.specs.Verdicts.{asked, both, type_verdict, broken}
 use Rattle.go_typed.specs.Terminating.{list_terminates}
 use Rattle.go_scope.specs.Scopes.{is_blank}
-use Rattle.go_stmt.specs.Scopes.{Env, Context, nothing, scope_in, declare_variable}
+use Rattle.go_stmt.specs.Scopes.{StatementEnv, Context, nothing, scope_in, declare_variable}
 use Rattle.go_stmt.specs.Rules.{all_some, ended}
-use Rattle.go_stmt.specs.Statements.{begun, list_at}
-use Rattle.go_stmt.specs.Functions.{declare_parameters, type_at, parameter_at, parameters_at, result_types, results_at, body_at, closing, Parts, whole, function_of, function_at}
+use Rattle.go_stmt.specs.Statements.{block_context, list_at}
+use Rattle.go_stmt.specs.Functions.{declare_parameters, type_in_signature, parameter_at, parameters_at, result_types, results_at, body_at, closing_place, CheckedParts, whole_function, function_from, function_at}
 use Rattle.go_package_laws.proofs.Soundness.{Table, IsSoundType, AreSoundTypes}
 use Rattle.go_package_laws.proofs.Texts.{TypeHasTexts}
 use Rattle.go_package_laws.proofs.BodyTexts.{ParametersHaveTexts, ResultsHaveTexts, FunctionHasTexts, BlockHasTexts}
@@ -57,22 +57,22 @@ drop_front (x ∷ xs) ys = drop_front xs ys
 
 -- ---- parameters
 
-declared_types : (x : List ℕ) (t : Type') (env : Env) → (declare_variable x (Some t) env).types ≡ env.types ++ t ∷ []
+declared_types : (x : List ℕ) (t : Type') (env : StatementEnv) → (declare_variable x (Some t) env).types ≡ env.types ++ t ∷ []
 declared_types x t env = refl
 
-parameters_types : (ns : List Name) (t : Type') (env : Env) → (declare_parameters ns (Some t) env).types ≡ env.types ++ map (λ n. t) ns
+parameters_types : (ns : List Name) (t : Type') (env : StatementEnv) → (declare_parameters ns (Some t) env).types ≡ env.types ++ map (λ n. t) ns
 parameters_types [] t env = sym (append-nil env.types)
 parameters_types (n ∷ ns) t env = parameters_types ns t (declare_variable n.text (Some t) env) ∙ append_assoc env.types (t ∷ []) (map (λ n. t) ns)
 
-names_grow : (ns : List Name) (t : Option Type') (env : Env) → Grows env (declare_parameters ns t env)
+names_grow : (ns : List Name) (t : Option Type') (env : StatementEnv) → Grows env (declare_parameters ns t env)
 names_grow [] t env = grows_none env
 names_grow (n ∷ ns) t env = grows_on env (declare_variable n.text t env) (declare_parameters ns t (declare_variable n.text t env)) (variable_grows n.text t env) (names_grow ns t (declare_variable n.text t env))
 
-parameters_grow : (c : Context) (ps : List Parameter) (env : Env) → Grows env (parameters_at c ps env).after
+parameters_grow : (c : Context) (ps : List Parameter) (env : StatementEnv) → Grows env (parameters_at c ps env).after
 parameters_grow c [] env = grows_none env
 parameters_grow c (p ∷ ps) env =
     let there = (parameter_at c p env).after in
-    grows_on env there (parameters_at c ps there).after (names_grow p.names (type_at c p.type env).known env) (parameters_grow c ps there)
+    grows_on env there (parameters_at c ps there).after (names_grow p.names (type_in_signature c p.type env).known env) (parameters_grow c ps there)
 
 same_types_sound : (w : Table) (t : Type') → IsSoundType w t → (ns : List Name) → AreSoundTypes w (map (λ n. t) ns)
 same_types_sound w t h [] = tt
@@ -111,25 +111,25 @@ body_parts None b k h = absurd cc
 body_parts (Some ts) None k h = absurd cc
 body_parts (Some ts) (Some ss) k h = (let same : (ts, ss) ≡ k = cc in (ap (λ j. Some j.0) same, ap (λ j. Some j.1) same))
 
-closed_parts : (ps : List Type') (k : List Type' × List typed.Stmt) (y : Parts) → whole (ps, k) ≡ Fine y → (ended k.0 k.1 ≡ Fine y.1) × (ps ≡ y.0)
+closed_parts : (ps : List Type') (k : List Type' × List typed.Stmt) (y : CheckedParts) → whole_function (ps, k) ≡ Fine y → (ended k.0 k.1 ≡ Fine y.1) × (ps ≡ y.0)
 closed_parts ps k y h =
     let part = checked_part (λ inside. Fine (ps, inside)) (ended k.0 k.1) y h in
     let same : (ps, part.0) ≡ y = (let q : Fine (ps, part.0) ≡ Fine y = part.2 in cc) in
-    (part.1 ∙ ap (λ (j : Parts). Fine j.1) same, ap (λ (j : Parts). j.0) same)
+    (part.1 ∙ ap (λ (j : CheckedParts). Fine j.1) same, ap (λ (j : CheckedParts). j.0) same)
 
 -- what is known of a whole function, and that it doesn't run off its end where something is due
-ended_whole : (a : Option (List Type')) (b : Option (List Type' × List typed.Stmt)) (y : Parts) → fine (asked whole (both a b)) ≡ Some y
+ended_whole : (a : Option (List Type')) (b : Option (List Type' × List typed.Stmt)) (y : CheckedParts) → fine (asked whole_function (both a b)) ≡ Some y
     → (a ≡ Some y.0) × (b ≡ Some y.1) × ((are_none (y.1).0 || list_terminates (pack_stmts (y.1).1)) ≡ true)
 ended_whole None b y h = absurd cc
 ended_whole (Some ps) None y h = absurd cc
 ended_whole (Some ps) (Some k) y h =
-    let parts = closed_parts ps k y (fine_is (whole (ps, k)) y h) in
+    let parts = closed_parts ps k y (fine_is (whole_function (ps, k)) y h) in
     let made = ended_parts k.0 k.1 y.1 (nat_eq (length k.0) 0) (list_terminates (pack_stmts k.1)) refl refl parts.0 in
     (ap Some parts.1, ap Some made.1, subst (λ (j : List Type' × List typed.Stmt). (are_none j.0 || list_terminates (pack_stmts j.1)) ≡ true) made.1 made.0)
 
-whole_parts : (a : Option (List Type')) (b : Option (List Type' × List typed.Stmt)) (f : Parts → typed.Function) (y : typed.Function) → option_map f (fine (asked whole (both a b))) ≡ Some y
+whole_parts : (a : Option (List Type')) (b : Option (List Type' × List typed.Stmt)) (f : CheckedParts → typed.Function) (y : typed.Function) → option_map f (fine (asked whole_function (both a b))) ≡ Some y
     → (ps : List Type') × (k : List Type' × List typed.Stmt) × (a ≡ Some ps) × (b ≡ Some k) × ((are_none k.0 || list_terminates (pack_stmts k.1)) ≡ true) × (f (ps, k) ≡ y)
-whole_parts a b f y h = elim (fine (asked whole (both a b))) as (λ o. fine (asked whole (both a b)) ≡ o → option_map f o ≡ Some y
+whole_parts a b f y h = elim (fine (asked whole_function (both a b))) as (λ o. fine (asked whole_function (both a b)) ≡ o → option_map f o ≡ Some y
     → (ps : List Type') × (k : List Type' × List typed.Stmt) × (a ≡ Some ps) × (b ≡ Some k) × ((are_none k.0 || list_terminates (pack_stmts k.1)) ≡ true) × (f (ps, k) ≡ y)) [
       | None ↦ λ is q. absurd cc
       | Some z ↦ λ is q. (let parts = ended_whole a b z is in (z.0, z.1, parts.0, parts.1, parts.2, cc))
@@ -159,12 +159,12 @@ module _ (x : Expected) (w : Table) (packages : List Package) where
   signature_type c out t texts u is =
       x.sound_type w outer [] (scope_in c None nothing) t (scope_sound w outer c (out [] [] false false) nothing [] (tt, tt, λ n t place none. absurd (true≢false (sym none))) None) texts u (fine_is (type_verdict (scope_in c None nothing) t) u is)
 
-  parameters_sound : (c : Context) → SoundOutside c → (ps : List Parameter) → ParametersHaveTexts ps → (env : Env) (ks : List Type') → (parameters_at c ps env).known ≡ Some ks → AreSoundTypes w ks × ((parameters_at c ps env).after.types ≡ env.types ++ ks)
+  parameters_sound : (c : Context) → SoundOutside c → (ps : List Parameter) → ParametersHaveTexts ps → (env : StatementEnv) (ks : List Type') → (parameters_at c ps env).known ≡ Some ks → AreSoundTypes w ks × ((parameters_at c ps env).after.types ≡ env.types ++ ks)
   parameters_sound c out [] texts env ks is = (let same : [] ≡ ks = cc in subst (λ (l : List Type'). AreSoundTypes w l × (env.types ≡ env.types ++ l)) same (tt, sym (append-nil env.types)))
   parameters_sound c out (p ∷ ps) texts env ks is =
       let there = (parameter_at c p env).after in
       let parts = two_known (parameter_at c p env).known (parameters_at c ps there).known ks is in
-      let one = one_known p.names (type_at c p.type env).known parts.0 parts.2 in
+      let one = one_known p.names (type_in_signature c p.type env).known parts.0 parts.2 in
       let rest = parameters_sound c out ps texts.1 there parts.1 parts.3 in
       let types : there.types ≡ env.types ++ parts.0 =
       ap (λ o. (declare_parameters p.names o env).types) one.1 ∙ parameters_types p.names one.0 env ∙ ap (λ l. env.types ++ l) one.2 in
@@ -179,19 +179,19 @@ module _ (x : Expected) (w : Table) (packages : List Package) where
   results_sound c out (t ∷ ts) texts ks is =
       all_known (fine (type_verdict (scope_in c None nothing) t)) (map (λ t. fine (type_verdict (scope_in c None nothing) t)) ts) w ks (λ u at. signature_type c out t texts.0 u at) (λ us at. results_sound c out ts texts.1 us at) is
 
-  body_result : (c : Context) (rs : List TypeExpr) (b : Block) (env : Env) (k : List Type' × List typed.Stmt) → (body_at c rs b env).known ≡ Some k → (results_at c rs nothing).known ≡ Some k.0
-  body_result c rs (block p ss q) env k is = (body_parts (results_at c rs env).known (list_at (record (begun c) { results = result_types c rs }) ss env).known k is).0
+  body_result : (c : Context) (rs : List TypeExpr) (b : Block) (env : StatementEnv) (k : List Type' × List typed.Stmt) → (body_at c rs b env).known ≡ Some k → (results_at c rs nothing).known ≡ Some k.0
+  body_result c rs (block p ss q) env k is = (body_parts (results_at c rs env).known (list_at (record (block_context c) { results = result_types c rs }) ss env).known k is).0
 
   -- ---- parameters in scope
 
   module _ (locals : List Type') (d : List ℕ) where
-    abbrev Given : Env → Type 0
+    abbrev Given : StatementEnv → Type 0
     Given env = (n : ℕ) → n < length env.types → has d n ≡ true
 
-    given_before : (a b : Env) → Grows a b → Given b → Given a
+    given_before : (a b : StatementEnv) → Grows a b → Given b → Given a
     given_before a b g h n less = h n (let longer : length (a.types ++ (g.1).0) ≡ length b.types = ap length (g.1).1 in omega (arith, less, length-append a.types (g.1).0, longer))
 
-    variable_named : (n : Name) (t : Type') (env final : Env) → Grows (declare_variable n.text (Some t) env) final → Lies w locals final → Given final → AllSound w locals d env.names.inner → AllSound w locals d (declare_variable n.text (Some t) env).names.inner
+    variable_named : (n : Name) (t : Type') (env final : StatementEnv) → Grows (declare_variable n.text (Some t) env) final → Lies w locals final → Given final → AllSound w locals d env.names.inner → AllSound w locals d (declare_variable n.text (Some t) env).names.inner
     variable_named n t env final grows lies given h =
         let back = lies_before w locals (declare_variable n.text (Some t) env) final grows lies in
         let place : slice_get locals (length env.types) ≡ Some t = at_place env.types t back.0 locals back.1 in
@@ -202,31 +202,31 @@ module _ (x : Expected) (w : Table) (packages : List Package) where
           | inr named ↦ rw named (more_names w locals d env.names.inner ((n.text, Some (value (local t (length env.types)))) ∷ []) h (named, (place, has_it), tt))
         ]
 
-    names_named : (ns : List Name) (t : Type') (env final : Env) → Grows (declare_parameters ns (Some t) env) final → Lies w locals final → Given final → AllSound w locals d env.names.inner → AllSound w locals d (declare_parameters ns (Some t) env).names.inner
+    names_named : (ns : List Name) (t : Type') (env final : StatementEnv) → Grows (declare_parameters ns (Some t) env) final → Lies w locals final → Given final → AllSound w locals d env.names.inner → AllSound w locals d (declare_parameters ns (Some t) env).names.inner
     names_named [] t env final grows lies given h = h
     names_named (n ∷ ns) t env final grows lies given h =
         let one = declare_variable n.text (Some t) env in
         names_named ns t one final grows lies given (variable_named n t env final (grows_on one (declare_parameters ns (Some t) one) final (names_grow ns (Some t) one) grows) lies given h)
 
-    parameters_named : (c : Context) (ps : List Parameter) (env final : Env) (ks : List Type') → (parameters_at c ps env).known ≡ Some ks → Grows (parameters_at c ps env).after final → Lies w locals final → Given final → AllSound w locals d env.names.inner
+    parameters_named : (c : Context) (ps : List Parameter) (env final : StatementEnv) (ks : List Type') → (parameters_at c ps env).known ≡ Some ks → Grows (parameters_at c ps env).after final → Lies w locals final → Given final → AllSound w locals d env.names.inner
         → AllSound w locals d (parameters_at c ps env).after.names.inner
     parameters_named c [] env final ks is grows lies given h = h
     parameters_named c (p ∷ ps) env final ks is grows lies given h =
         let there = (parameter_at c p env).after in
         let parts = two_known (parameter_at c p env).known (parameters_at c ps there).known ks is in
-        let one = one_known p.names (type_at c p.type env).known parts.0 parts.2 in
+        let one = one_known p.names (type_in_signature c p.type env).known parts.0 parts.2 in
         let same : declare_parameters p.names (Some one.0) env ≡ there = ap (λ o. declare_parameters p.names o env) (sym one.1) in
         let forward : Grows there final = grows_on there (parameters_at c ps there).after final (parameters_grow c ps there) grows in
-        let first_names = names_named p.names one.0 env final (subst (λ (e : Env). Grows e final) (sym same) forward) lies given h in
-        parameters_named c ps there final parts.1 parts.3 grows lies given (subst (λ (e : Env). AllSound w locals d e.names.inner) same first_names)
+        let first_names = names_named p.names one.0 env final (subst (λ (e : StatementEnv). Grows e final) (sym same) forward) lies given h in
+        parameters_named c ps there final parts.1 parts.3 grows lies given (subst (λ (e : StatementEnv). AllSound w locals d e.names.inner) same first_names)
 
   -- ---- bodies and functions
 
-  body_sure : (c : Context) → SoundOutside c → SoundPackageVariables → (rs : List TypeExpr) (b : Block) → ResultsHaveTexts rs → BlockHasTexts b → (env : Env) → (body_at c rs b env).faults ≡ [] → (k : List Type' × List typed.Stmt) → (body_at c rs b env).known ≡ Some k
+  body_sure : (c : Context) → SoundOutside c → SoundPackageVariables → (rs : List TypeExpr) (b : Block) → ResultsHaveTexts rs → BlockHasTexts b → (env : StatementEnv) → (body_at c rs b env).faults ≡ [] → (k : List Type' × List typed.Stmt) → (body_at c rs b env).known ≡ Some k
       → Grows env (body_at c rs b env).after × ((results_at c rs nothing).known ≡ Some k.0) × AreSoundTypes w k.0
       × ((d : List ℕ) → Related w (body_at c rs b env).after.types env d → AreStmts (setting_in (signature_at packages) (variable_at packages) (body_at c rs b env).after.types k.0 c.breaks c.continues) d (pack_stmts k.1))
   body_sure c out v rs (block p ss q) texts more env none k is =
-      let inner = record (begun c) { results = result_types c rs } in
+      let inner = record (block_context c) { results = result_types c rs } in
       let list = list_at inner ss env in
       let parts = body_parts (results_at c rs env).known list.known k is in
       let locals = list.after.types in
@@ -258,28 +258,28 @@ module _ (x : Expected) (w : Table) (packages : List Package) where
       )
 
   -- types of the signature, whatever stands in the body
-  pub sound_signature : (c : Context) (f : Function) → SoundOutside c → FunctionHasTexts f → (y : typed.Function) → (function_at c f).known ≡ Some y → AreSoundTypes w y.parameters × AreSoundTypes w y.results
+  pub sound_signature : (c : Context) (f : FunctionDecl) → SoundOutside c → FunctionHasTexts f → (y : typed.Function) → (function_at c f).known ≡ Some y → AreSoundTypes w y.parameters × AreSoundTypes w y.results
   unfolding function_at
   sound_signature c f out texts y is =
       let start = parameters_at c f.parameters nothing in
       let body = body_at c f.results f.body start.after in
-      let parts = whole_parts start.known body.known (function_of f body.after.types) y is in
+      let parts = whole_parts start.known body.known (function_from f body.after.types) y is in
       let params = parameters_sound c out f.parameters texts.0 nothing parts.0 parts.2 in
       let results = results_sound c out f.results texts.1 (parts.1).0 (body_result c f.results f.body start.after parts.1 parts.3) in
       subst (λ (y : typed.Function). AreSoundTypes w y.parameters × AreSoundTypes w y.results) parts.5 (params.0, results)
 
-  pub sound_function : (c : Context) (f : Function) → c.breaks ≡ false → c.continues ≡ false → SoundOutside c → SoundPackageVariables → FunctionHasTexts f → (function_at c f).faults ≡ [] → (y : typed.Function) → (function_at c f).known ≡ Some y
-      → IsFunction packages y × ((parameters_at c f.parameters nothing).known ≡ Some y.parameters) × ((results_at c f.results nothing).known ≡ Some y.results) × AreSoundTypes w y.parameters × AreSoundTypes w y.results × (y.name ≡ f.name.text)
+  pub sound_function : (c : Context) (f : FunctionDecl) → c.breaks ≡ false → c.continues ≡ false → SoundOutside c → SoundPackageVariables → FunctionHasTexts f → (function_at c f).faults ≡ [] → (y : typed.Function) → (function_at c f).known ≡ Some y
+      → IsWellTypedFunction packages y × ((parameters_at c f.parameters nothing).known ≡ Some y.parameters) × ((results_at c f.results nothing).known ≡ Some y.results) × AreSoundTypes w y.parameters × AreSoundTypes w y.results × (y.name ≡ f.name.text)
   unfolding function_at
   sound_function c f breaks continues out v texts none y is =
       let start = parameters_at c f.parameters nothing in
       let env = start.after in
       let body = body_at c f.results f.body env in
       let types = body.after.types in
-      let parts = whole_parts start.known body.known (function_of f types) y is in
+      let parts = whole_parts start.known body.known (function_from f types) y is in
       let ts = parts.0 in
       let k = parts.1 in
-      let inside_it = two_none (start.faults ++ body.faults) (broken (closing f.body) (asked whole (both start.known body.known))) none in
+      let inside_it = two_none (start.faults ++ body.faults) (broken (closing_place f.body) (asked whole_function (both start.known body.known))) none in
       let faultless = two_none start.faults body.faults inside_it.0 in
       let params = parameters_sound c out f.parameters texts.0 nothing ts parts.2 in
       let made = body_sure c out v f.results f.body texts.1 texts.2 env faultless.1 k parts.3 in
@@ -292,5 +292,5 @@ module _ (x : Expected) (w : Table) (packages : List Package) where
       let one = subst (λ l. AreStmts (setting_in (signature_at packages) (variable_at packages) l k.0 c.breaks c.continues) (first (length ts)) (pack_stmts k.1)) locals stmts in
       let two = subst (λ b. AreStmts (setting_in (signature_at packages) (variable_at packages) (ts ++ drop (length ts) types) k.0 b c.continues) (first (length ts)) (pack_stmts k.1)) breaks one in
       let three = subst (λ b. AreStmts (setting_in (signature_at packages) (variable_at packages) (ts ++ drop (length ts) types) k.0 false b) (first (length ts)) (pack_stmts k.1)) continues two in
-      subst (λ (y : typed.Function). IsFunction packages y × ((parameters_at c f.parameters nothing).known ≡ Some y.parameters) × ((results_at c f.results nothing).known ≡ Some y.results) × AreSoundTypes w y.parameters × AreSoundTypes w y.results × (y.name ≡ f.name.text)) parts.5
+      subst (λ (y : typed.Function). IsWellTypedFunction packages y × ((parameters_at c f.parameters nothing).known ≡ Some y.parameters) × ((results_at c f.results nothing).known ≡ Some y.results) × AreSoundTypes w y.parameters × AreSoundTypes w y.results × (y.name ≡ f.name.text)) parts.5
       (record { body = three; ended = parts.4 }, parts.2, made.1, params.0, made.2, refl)

@@ -5,7 +5,7 @@ use Rattle.std.specs.Fmt.{decimal}
 use Rattle.std.specs.List.{All, filter, find, flat_map, slice_get, starts_with}
 use Rattle.std.proofs.lemmas.Bool.{cases_Bool}
 use Rattle.std.proofs.lemmas.List.Elements.{All-head, All-tail, All-nil, All-cons, All-append}
-use Rattle.go_ast.specs.Trees.{Name, TypeExpr, TopLevel, declared, function, Function, Parameter, File}
+use Rattle.go_ast.specs.Trees.{Name, TypeExpr, TopLevel, declared, function, FunctionDecl, Parameter, File}
 use Rattle.go_typed.specs.Trees as typed
 use Rattle.go_meaning.specs.Programs.{is_init}
 use Rattle.go_scan.specs.Words.{IsWord}
@@ -14,7 +14,7 @@ use Rattle.go_stmt.specs.Scopes.{nothing, scope_in}
 use Rattle.go_stmt.specs.Functions.{function_at}
 use Rattle.go_objects.specs.Table.{types_known, parameters_known}
 use Rattle.go_package.specs.Faults.{Facts, Faults, context_at}
-use Rattle.go_package.specs.Packages.{reserved_faults, names_faults, absent_main_faults, main_faults, each_file}
+use Rattle.go_package.specs.Packages.{reserved_faults, reserved_names_faults, absent_main_faults, main_faults, each_file}
 use Rattle.go_package.specs.Typed.{top_functions, of_files, with_numbers}
 use Rattle.go_package_laws.proofs.Dots.{no_dot}
 use Rattle.go_package_laws.proofs.Parsed.{TopsNamed, FilesNamed}
@@ -72,7 +72,7 @@ module _ (t : Facts) (clause : List ℕ) where
   no_signature n [] (t ∷ ts) is none = absurd (reserved n is none)
   no_signature n (p ∷ ps) ts is none = absurd (reserved n is none)
 
-  one_plain : (file : ℕ) (f : Function) → IsWord f.name.text → names_faults clause (function f) ≡ [] → (g : typed.Function) → (function_at (context_at t file) f).known ≡ Some g → Plain g
+  one_plain : (file : ℕ) (f : FunctionDecl) → IsWord f.name.text → reserved_names_faults clause (function f) ≡ [] → (g : typed.Function) → (function_at (context_at t file) f).known ≡ Some g → Plain g
   one_plain file f word none g is =
       let of = signed (context_at t file) f g is in
       let s = scope_in (context_at t file) None nothing in (
@@ -84,7 +84,7 @@ module _ (t : Facts) (clause : List ℕ) where
             (sym (some_same [] g.parameters parameters), sym (some_same [] g.results results))),
       )
 
-  listed_plain : (file : ℕ) (f : Function) → IsWord f.name.text → names_faults clause (function f) ≡ [] → (o : Option typed.Function) → (function_at (context_at t file) f).known ≡ o
+  listed_plain : (file : ℕ) (f : FunctionDecl) → IsWord f.name.text → reserved_names_faults clause (function f) ≡ [] → (o : Option typed.Function) → (function_at (context_at t file) f).known ≡ o
       → All Plain (elim o [ None ↦ [] | Some g ↦ if is_blank f.name.text then [] else g ∷ [] ])
   listed_plain file f word none None is = All-nil Plain
   listed_plain file f word none (Some g) is = elim (cases_Bool (bytes_eq f.name.text (codes "_"))) [
@@ -92,20 +92,20 @@ module _ (t : Facts) (clause : List ℕ) where
     | inr named ↦ rw named (All-cons Plain g [] (one_plain file f word none g is) (All-nil Plain))
   ]
 
-  tops_plain : (file : ℕ) (tops : List TopLevel) → TopsNamed tops → flat_map (names_faults clause) tops ≡ [] → All Plain (flat_map (top_functions t file) tops)
+  tops_plain : (file : ℕ) (tops : List TopLevel) → TopsNamed tops → flat_map (reserved_names_faults clause) tops ≡ [] → All Plain (flat_map (top_functions t file) tops)
   tops_plain file [] words none = All-nil Plain
   tops_plain file (function f ∷ tops) words none =
-      let both = both_none (names_faults clause (function f)) (flat_map (names_faults clause) tops) none in
+      let both = both_none (reserved_names_faults clause (function f)) (flat_map (reserved_names_faults clause) tops) none in
       All-append Plain (top_functions t file (function f)) (flat_map (top_functions t file) tops)
       (listed_plain file f words.0 both.0 (function_at (context_at t file) f).known refl) (tops_plain file tops words.1 both.1)
   tops_plain file (declared d ∷ tops) words none =
-      tops_plain file tops words (both_none (names_faults clause (declared d)) (flat_map (names_faults clause) tops) none).1
+      tops_plain file tops words (both_none (reserved_names_faults clause (declared d)) (flat_map (reserved_names_faults clause) tops) none).1
 
-  files_plain : (number : ℕ) (fs : List File) → FilesNamed fs → each_file (λ number file. flat_map (names_faults clause) file.declarations) number fs ≡ [] → All Plain (of_files (top_functions t) number fs)
+  files_plain : (number : ℕ) (fs : List File) → FilesNamed fs → each_file (λ number file. flat_map (reserved_names_faults clause) file.declarations) number fs ≡ [] → All Plain (of_files (top_functions t) number fs)
   files_plain number [] words none = All-nil Plain
   files_plain number (f ∷ fs) words none =
-      let own = flat_map (names_faults clause) f.declarations in
-      let both = both_none (map (λ x. (number, x)) own) (each_file (λ number file. flat_map (names_faults clause) file.declarations) (suc number) fs) none in
+      let own = flat_map (reserved_names_faults clause) f.declarations in
+      let both = both_none (map (λ x. (number, x)) own) (each_file (λ number file. flat_map (reserved_names_faults clause) file.declarations) (suc number) fs) none in
       All-append Plain (flat_map (top_functions t number) f.declarations) (of_files (top_functions t) (suc number) fs)
       (tops_plain number f.declarations words.0 (unmapped (λ x. (number, x)) own both.0)) (files_plain (suc number) fs words.1 both.1)
 
@@ -113,7 +113,7 @@ module _ (t : Facts) (clause : List ℕ) where
 pub inits_empty : (t : Facts) (files : List File) → FilesNamed files → main_faults t files ≡ [] → All EmptyInit (with_numbers 1 (of_files (top_functions t) 0 files))
 inits_empty t [] words none = All-nil EmptyInit
 inits_empty t (f ∷ fs) words none =
-    let both = both_none (each_file (λ number file. flat_map (names_faults f.package.text) file.declarations) 0 (f ∷ fs)) (absent_main_faults t f.package) none in
+    let both = both_none (each_file (λ number file. flat_map (reserved_names_faults f.package.text) file.declarations) 0 (f ∷ fs)) (absent_main_faults t f.package) none in
     numbered_empty 1 (of_files (top_functions t) 0 (f ∷ fs)) (files_plain t f.package.text 0 (f ∷ fs) words both.0)
 
 -- ---- lists

@@ -15,10 +15,10 @@ use Rattle.ws_reach.specs.Reach.{Edge}
 use Rattle.go_typed.specs.Trees as typed_trees
 use Rattle.go_typed.specs.Trees.{Initialization, Package, Function as TypedFunction, global}
 use Rattle.go_init.specs.Variables.{variable_order}
-use Rattle.go_meaning.specs.Programs.{calls, package_steps, symbol_of}
+use Rattle.go_meaning.specs.Programs.{calls, package_steps, package_symbol}
 use Rattle.go_expr.specs.Known.{Declared, value, function as known_function, Names, universe}
 use Rattle.go_expr.specs.Rules.{fine, int}
-use Rattle.go_objects.specs.Objects.{Object}
+use Rattle.go_objects.specs.Objects.{DeclaredObject}
 use Rattle.go_objects.specs.Table.{rows, object_verdict, declared_in}
 use Rattle.go_objects.specs.Table as objects
 use Rattle.go_package.specs.Faults.{Facts}
@@ -82,16 +82,16 @@ abbrev pub file_names : List (List ℕ)
 file_names = codes "a.go" ∷ []
 
 module _ (edition : Edition) (path : List ℕ) (files : List File) (ps : List Importable) where
-  abbrev pub whole : objects.Package
+  abbrev pub whole : objects.PackageTable
   whole = package_in edition path files ps
 
-  abbrev entry : Names → Object → List ℕ × Option Declared
+  abbrev entry : Names → DeclaredObject → List ℕ × Option Declared
   entry known o = (o.name.text, declared_in (fine (object_verdict whole known o)))
 
   abbrev facts_of : Names → Facts
   facts_of known = record { «package» = whole; known = known; recursive = [] }
 
-  are_facts : (known : Names) → known ≡ map (entry known) whole.objects → map (λ n. n.0) known ≡ map (λ (o : Object). o.name.text) whole.objects → AllEmpty (rows whole) → AreFacts whole (facts_of known)
+  are_facts : (known : Names) → known ≡ map (entry known) whole.objects → map (λ n. n.0) known ≡ map (λ (o : DeclaredObject). o.name.text) whole.objects → AllEmpty (rows whole) → AreFacts whole (facts_of known)
   are_facts known is named none = record {
     package_is = refl;
     known = record {
@@ -105,7 +105,7 @@ module _ (edition : Edition) (path : List ℕ) (files : List File) (ps : List Im
   abbrev pub typed : Names → Package
   typed known = typed_package edition (facts_of known) file_names files
 
-  pub typed_in : (known : Names) → known ≡ map (entry known) whole.objects → map (λ n. n.0) known ≡ map (λ (o : Object). o.name.text) whole.objects → AllEmpty (rows whole) → package_faults ps (facts_of known) files ≡ []
+  pub typed_in : (known : Names) → known ≡ map (entry known) whole.objects → map (λ n. n.0) known ≡ map (λ (o : DeclaredObject). o.name.text) whole.objects → AllEmpty (rows whole) → package_faults ps (facts_of known) files ≡ []
       → IsTypedIn edition whole files ps file_names (typed known)
   typed_in known is named empty none = record { facts = facts_of known; are = are_facts known is named empty; none = none; is = refl }
 
@@ -159,7 +159,7 @@ module _ (path : List ℕ) where
   unfolding function_at
   init_typed = typed_in One path (files_of init_tops) [] main_known refl refl tt refl
 
-  pub init_is : package_steps an_init ≡ calls (symbol_of an_init (codes "init." ++ decimal 1)) ∷ []
+  pub init_is : package_steps an_init ≡ calls (package_symbol an_init (codes "init." ++ decimal 1)) ∷ []
   unfolding function_at
   init_is = refl
 
@@ -198,7 +198,7 @@ module _ (path : List ℕ) where
   unfolding function_at exports_of chars general_category value_in general_category_rows
   caller_typed = typed_in One path caller_files (importable_of a_library ∷ []) (main_known path) refl refl tt refl
 
-  pub caller_calls : map (λ (f : TypedFunction). f.body) a_caller.functions ≡ typed_trees.some_stmts (typed_trees.run [] (symbol_of a_library (codes "F")) typed_trees.no_exprs) typed_trees.no_stmts ∷ []
+  pub caller_calls : map (λ (f : TypedFunction). f.body) a_caller.functions ≡ typed_trees.some_stmts (typed_trees.run [] (package_symbol a_library (codes "F")) typed_trees.no_exprs) typed_trees.no_stmts ∷ []
   unfolding function_at exports_of chars general_category value_in general_category_rows
   caller_calls = refl
 

@@ -2,12 +2,12 @@
 use Rattle.std.proofs.Common.{◌≡◌, ℕ, List, Some, subst, sym}
 use Rattle.go_ast.specs.declared.expression.UnaryOperator as signs
 use Rattle.go_ast.specs.declared.expression.BinaryOperator as source
-use Rattle.go_ast.specs.Trees.{Expr, TypeExpr}
+use Rattle.go_ast.specs.Trees.{Expression, TypeExpr}
 use Rattle.go_types.specs.Types.{Type'}
 use Rattle.go_typed.specs.Trees.{Expr as Typed, expr_type}
 use Rattle.go_meaning_laws.specs.WellTyped.{Setting, IsExpr, IsCondition}
 use Rattle.go_expr.specs.Known.{Known, Fine, Scope}
-use Rattle.go_expr.specs.Rules.{assigned, default_type, defaulted, condition, value_due, converted, unary_of, binary_of, called}
+use Rattle.go_expr.specs.Rules.{assigned, default_type, defaulted, condition, value_due, converted, unary_verdict, binary_verdict, called}
 use Rattle.go_expr.specs.Verdicts.{operand, verdict, type_verdict}
 use Rattle.go_package_laws.proofs.Soundness.{Table, IsSoundType, HasSoundWay, IsTypedValue, IsSoundValue}
 use Rattle.go_package_laws.proofs.SoundNames.{IsSoundKnown, IsSoundScope}
@@ -20,10 +20,10 @@ use Rattle.go_package_laws.proofs.Calls.{value_due_gives, called_gives}
 use Rattle.go_package_laws.proofs.Sound.{gives_at, has_at, operand_has, known_gives, type_gives}
 
 module _ (w : Table) (g : Setting) (d : List ℕ) where
-  pub sound_known : (s : Scope) (e : Expr) → IsSoundScope w g d s → HasTexts e → (k : Known) → verdict s e ≡ Fine k → IsSoundKnown w g d k
+  pub sound_known : (s : Scope) (e : Expression) → IsSoundScope w g d s → HasTexts e → (k : Known) → verdict s e ≡ Fine k → IsSoundKnown w g d k
   sound_known s e h t k at = gives_at (IsSoundKnown w g d) (verdict s e) k (known_gives w g d s e h t) at
 
-  pub sound_operand : (s : Scope) (e : Expr) → IsSoundScope w g d s → HasTexts e → (x : Typed) → operand (verdict s e) ≡ Some x → IsSoundValue w g d x
+  pub sound_operand : (s : Scope) (e : Expression) → IsSoundScope w g d s → HasTexts e → (x : Typed) → operand (verdict s e) ≡ Some x → IsSoundValue w g d x
   sound_operand s e h t x at = has_at (IsSoundValue w g d) (operand (verdict s e)) x (operand_has w g d (verdict s e) (known_gives w g d s e h t)) at
 
   pub sound_type : (s : Scope) (u : TypeExpr) → IsSoundScope w g d s → TypeHasTexts u → (t : Type') → type_verdict s u ≡ Fine t → IsSoundType w t
@@ -43,11 +43,11 @@ module _ (w : Table) (g : Setting) (d : List ℕ) where
   pub sound_condition : (e : Typed) → IsSoundValue w g d e → (x : Typed) → condition e ≡ Fine x → IsCondition g d x
   sound_condition e h x at = gives_at (IsCondition g d) (condition e) x (condition_gives w g d e h) at
 
-  pub sound_unary : (op : signs.UnaryOperator) (e : Typed) → IsSoundValue w g d e → (x : Typed) → unary_of op e ≡ Fine x → IsSoundValue w g d x
-  sound_unary op e h x at = gives_at (IsSoundValue w g d) (unary_of op e) x (unary_gives w g d op e h) at
+  pub sound_unary : (op : signs.UnaryOperator) (e : Typed) → IsSoundValue w g d e → (x : Typed) → unary_verdict op e ≡ Fine x → IsSoundValue w g d x
+  sound_unary op e h x at = gives_at (IsSoundValue w g d) (unary_verdict op e) x (unary_gives w g d op e h) at
 
-  pub sound_binary : (op : source.BinaryOperator) (a b : Typed) → IsSoundValue w g d a → IsSoundValue w g d b → (x : Typed) → binary_of op a b ≡ Fine x → IsSoundValue w g d x
-  sound_binary op a b h k x at = gives_at (IsSoundValue w g d) (binary_of op a b) x (binary_gives w g d op a b h k) at
+  pub sound_binary : (op : source.BinaryOperator) (a b : Typed) → IsSoundValue w g d a → IsSoundValue w g d b → (x : Typed) → binary_verdict op a b ≡ Fine x → IsSoundValue w g d x
+  sound_binary op a b h k x at = gives_at (IsSoundValue w g d) (binary_verdict op a b) x (binary_gives w g d op a b h k) at
 
   pub sound_converted : (t : Type') (e : Typed) → IsSoundType w t → IsSoundValue w g d e → (x : Typed) → converted t e ≡ Fine x → IsSoundValue w g d x
   sound_converted t e h k x at = gives_at (IsSoundValue w g d) (converted t e) x (converted_gives w g d t e h k) at

@@ -5,7 +5,7 @@ use Rattle.go_text.specs.declared.place.Place.{Place}
 use Rattle.go_text.specs.Editions.{has_slices}
 use Rattle.go_scan.specs.declared.token.TokenKind.{TokenKind}
 use Rattle.go_ast.specs.Grammar.{Lexeme, Behind, AreItems, IsGroup, IsType, AreFields, IsExpr, IsBound, IsTypeOperand, AreOperands, AreArguments, AreElements, IsElement, AreMoreExprs, AreExprs, IsSimple, IsType?, IsExpr?, IsSimple?, AreValues, IsConstSpec, IsVarSpec, IsTypeSpec, IsDecl, IsStart, IsForHead, IsCase, IsStmt, IsBlock, IsIf, IsElse, AreStmts, AreClauses, is_last, IsParameter, AreResults, IsFunction, IsTopLevel, AreTopLevels, IsFile, Derives}
-use Rattle.go_ast.specs.Trees.{TypeExpr, named, qualified, array, slice, struct, Fields, no_fields, field, Expr, name, integer, rune, string, parenthesized, composite_lit, conversion, selector, index, cut, Bound, no_bound, bound, call, type_operand, unary, binary, Exprs, no_exprs, some_exprs, Elements, no_elements, element, Element, expression_element, value_element, Simple, call_statement, increment, decrement, assignment, operator_assignment, short_var_decl, ConstSpec, VarSpec, TypeSpec, Decl, constants, variables, types, Stmt, empty, declaration, simple, return, break, continue, fallthrough, block_statement, if_statement, for_statement, range_statement, switch_statement, Block, block, If, conditional, Else, no_else, else_block, else_if, Stmts, no_stmts, some_stmts, Clauses, no_clauses, clause, Parameter, Function, TopLevel, declared, function, File}
+use Rattle.go_ast.specs.Trees.{TypeExpr, named, qualified, array, slice, struct, FieldDecls, no_fields, field, Expression, name, integer, rune, string, parenthesized, composite_lit, conversion, selector, index, cut, Bound, no_bound, bound, call, type_operand, unary, binary, ExpressionList, no_exprs, some_exprs, Elements, no_elements, element, Element, expression_element, value_element, Simple, call_statement, increment, decrement, assignment, operator_assignment, short_var_decl, ConstSpec, VarSpec, TypeSpec, Decl, constants, variables, types, Statement, empty, declaration, simple, return, break, continue, fallthrough, block_statement, if_statement, for_statement, range_statement, switch_statement, Block, block, If, conditional, Else, no_else, else_block, else_if, StatementList, no_stmts, some_stmts, Cases, no_clauses, clause, Parameter, FunctionDecl, TopLevel, declared, function, File}
 use Rattle.go_ast.specs.Operators.{tighter}
 
 behind_moves : (separator : TokenKind) (O P : List Lexeme → List Lexeme → Type 0) (Last : Type 0) → ((us ws : List Lexeme) → O us ws → P us ws) → (us ws : List Lexeme) → Behind separator O Last us ws → Behind separator P Last us ws
@@ -29,11 +29,11 @@ module _ (e f : Edition) (later : has_slices e ≡ true → has_slices f ≡ tru
     type_moves (slice p a) us ws (o, c, vs, xs, has, bracket, at, close, of) = (o, c, vs, xs, later has, bracket, at, close, type_moves a xs ws of)
     type_moves (struct p fs) us ws (k, o, c, vs, xs, ys, word, at, bracket, fields, close) = (k, o, c, vs, xs, ys, word, at, bracket, fields_move fs xs ys fields, close)
 
-    fields_move : (fs : Fields) (us ws : List Lexeme) → AreFields e fs us ws → AreFields f fs us ws
+    fields_move : (fs : FieldDecls) (us ws : List Lexeme) → AreFields e fs us ws → AreFields f fs us ws
     fields_move no_fields us ws h = h
     fields_move (field ns a fs) us ws (vs, xs, names, of, rest) = (vs, xs, names, type_moves a vs xs of, behind_moves _ (AreFields e fs) (AreFields f fs) (fs ≡ no_fields) (fields_move fs) xs ws rest)
 
-    expr_moves : (x : Expr) (n : ℕ) (h : Bool) (us ws : List Lexeme) → IsExpr e n h x us ws → IsExpr f n h x us ws
+    expr_moves : (x : Expression) (n : ℕ) (h : Bool) (us ws : List Lexeme) → IsExpr e n h x us ws → IsExpr f n h x us ws
     expr_moves (name p text) n h us ws is = is
     expr_moves (integer p text) n h us ws is = is
     expr_moves (rune p value) n h us ws is = is
@@ -59,7 +59,7 @@ module _ (e f : Edition) (later : has_slices e ≡ true → has_slices f ≡ tru
     bound_moves no_bound us ws h = h
     bound_moves (bound x) us ws h = expr_moves x 5 false us ws h
 
-    operand_moves : (x : Expr) (us ws : List Lexeme) → IsTypeOperand e x us ws → IsTypeOperand f x us ws
+    operand_moves : (x : Expression) (us ws : List Lexeme) → IsTypeOperand e x us ws → IsTypeOperand f x us ws
     operand_moves (type_operand p a) us ws (has, other, of, at) = (later has, other, type_moves a us ws of, at)
     operand_moves (name p text) us ws h = absurd h
     operand_moves (integer p text) us ws h = absurd h
@@ -75,12 +75,12 @@ module _ (e f : Edition) (later : has_slices e ≡ true → has_slices f ≡ tru
     operand_moves (unary p op x) us ws h = absurd h
     operand_moves (binary p op a b) us ws h = absurd h
 
-    operands_move : (es : Exprs) (us ws : List Lexeme) → AreOperands e es us ws → AreOperands f es us ws
+    operands_move : (es : ExpressionList) (us ws : List Lexeme) → AreOperands e es us ws → AreOperands f es us ws
     operands_move no_exprs us ws h = h
     operands_move (some_exprs x es) us ws (vs, inl one, rest) = (vs, inl (expr_moves x 5 false us vs one), behind_moves _ (AreArguments e es) (AreArguments f es) (es ≡ no_exprs) (arguments_move es) vs ws rest)
     operands_move (some_exprs x es) us ws (vs, inr one, rest) = (vs, inr (operand_moves x us vs one), behind_moves _ (AreArguments e es) (AreArguments f es) (es ≡ no_exprs) (arguments_move es) vs ws rest)
 
-    arguments_move : (es : Exprs) (us ws : List Lexeme) → AreArguments e es us ws → AreArguments f es us ws
+    arguments_move : (es : ExpressionList) (us ws : List Lexeme) → AreArguments e es us ws → AreArguments f es us ws
     arguments_move no_exprs us ws h = h
     arguments_move (some_exprs x es) us ws (vs, one, rest) = (vs, expr_moves x 5 false us vs one, behind_moves _ (AreArguments e es) (AreArguments f es) (es ≡ no_exprs) (arguments_move es) vs ws rest)
 
@@ -92,11 +92,11 @@ module _ (e f : Edition) (later : has_slices e ≡ true → has_slices f ≡ tru
     element_moves (expression_element x) us ws h = expr_moves x 5 false us ws h
     element_moves (value_element p es) us ws (o, c, vs, xs, bracket, at, elements, close) = (o, c, vs, xs, bracket, at, elements_move es vs xs elements, close)
 
-  more_exprs_move : (h : Bool) (es : Exprs) (us ws : List Lexeme) → AreMoreExprs e h es us ws → AreMoreExprs f h es us ws
+  more_exprs_move : (h : Bool) (es : ExpressionList) (us ws : List Lexeme) → AreMoreExprs e h es us ws → AreMoreExprs f h es us ws
   more_exprs_move h no_exprs us ws is = is
   more_exprs_move h (some_exprs x es) us ws (c, vs, xs, comma, one, rest) = (c, vs, xs, comma, expr_moves x 5 h vs xs one, more_exprs_move h es xs ws rest)
 
-  exprs_move : (h : Bool) (es : Exprs) (us ws : List Lexeme) → AreExprs e h es us ws → AreExprs f h es us ws
+  exprs_move : (h : Bool) (es : ExpressionList) (us ws : List Lexeme) → AreExprs e h es us ws → AreExprs f h es us ws
   exprs_move h no_exprs us ws is = is
   exprs_move h (some_exprs x es) us ws (vs, one, rest) = (vs, expr_moves x 5 h us vs one, more_exprs_move h es vs ws rest)
 
@@ -112,7 +112,7 @@ module _ (e f : Edition) (later : has_slices e ≡ true → has_slices f ≡ tru
   some_type_moves None us ws h = h
   some_type_moves (Some a) us ws h = type_moves a us ws h
 
-  some_expr_moves : (x : Option Expr) (us ws : List Lexeme) → IsExpr? e x us ws → IsExpr? f x us ws
+  some_expr_moves : (x : Option Expression) (us ws : List Lexeme) → IsExpr? e x us ws → IsExpr? f x us ws
   some_expr_moves None us ws h = h
   some_expr_moves (Some x) us ws h = expr_moves x 5 true us ws h
 
@@ -120,7 +120,7 @@ module _ (e f : Edition) (later : has_slices e ≡ true → has_slices f ≡ tru
   some_simple_moves None us ws h = h
   some_simple_moves (Some s) us ws h = simple_moves true s us ws h
 
-  values_move : (es : Exprs) (us ws : List Lexeme) → AreValues e es us ws → AreValues f es us ws
+  values_move : (es : ExpressionList) (us ws : List Lexeme) → AreValues e es us ws → AreValues f es us ws
   values_move es us ws (t, vs, mark, values) = (t, vs, mark, exprs_move false es vs ws values)
 
   const_moves : (s : ConstSpec) (us ws : List Lexeme) → IsConstSpec e s us ws → IsConstSpec f s us ws
@@ -143,17 +143,17 @@ module _ (e f : Edition) (later : has_slices e ≡ true → has_slices f ≡ tru
   start_moves None us ws h = h
   start_moves (Some s) us ws (t, vs, one, mark) = (t, vs, simple_moves true s us vs one, mark)
 
-  head_moves : (i : Option Simple) (c : Option Expr) (n : Option Simple) (us ws : List Lexeme) → IsForHead e i c n us ws → IsForHead f i c n us ws
+  head_moves : (i : Option Simple) (c : Option Expression) (n : Option Simple) (us ws : List Lexeme) → IsForHead e i c n us ws → IsForHead f i c n us ws
   head_moves i c n us ws (inl (none, also, condition)) = inl (none, also, some_expr_moves c us ws condition)
   head_moves i c n us ws (inr (t, r, vs, xs, ys, zs, first, mark, condition, second, post, other)) =
       inr (t, r, vs, xs, ys, zs, some_simple_moves i us vs first, mark, some_expr_moves c xs ys condition, second, some_simple_moves n zs ws post, other)
 
-  case_moves : (p : Place) (es : Option Exprs) (us ws : List Lexeme) → IsCase e p es us ws → IsCase f p es us ws
+  case_moves : (p : Place) (es : Option ExpressionList) (us ws : List Lexeme) → IsCase e p es us ws → IsCase f p es us ws
   case_moves p None us ws h = h
   case_moves p (Some es) us ws (t, vs, word, at, values) = (t, vs, word, at, exprs_move false es vs ws values)
 
   mutual
-    stmt_moves : (s : Stmt) (us ws : List Lexeme) → IsStmt e s us ws → IsStmt f s us ws
+    stmt_moves : (s : Statement) (us ws : List Lexeme) → IsStmt e s us ws → IsStmt f s us ws
     stmt_moves (empty p) us ws h = h
     stmt_moves (declaration p d) us ws (one, at, local) = (decl_moves d us ws one, at, local)
     stmt_moves (simple p s) us ws (one, at) = (simple_moves false s us ws one, at)
@@ -182,12 +182,12 @@ module _ (e f : Edition) (later : has_slices e ≡ true → has_slices f ≡ tru
     else_moves (else_block b) us ws (t, vs, word, body) = (t, vs, word, block_moves b vs ws body)
     else_moves (else_if i) us ws (t, vs, word, other) = (t, vs, word, if_moves i vs ws other)
 
-    stmts_move : (closed : Bool) (ss : Stmts) (us ws : List Lexeme) → AreStmts e closed ss us ws → AreStmts f closed ss us ws
+    stmts_move : (closed : Bool) (ss : StatementList) (us ws : List Lexeme) → AreStmts e closed ss us ws → AreStmts f closed ss us ws
     stmts_move closed no_stmts us ws h = h
     stmts_move closed (some_stmts s ss) us ws (vs, one, rest) =
         (vs, stmt_moves s us vs one, behind_moves _ (AreStmts e closed ss) (AreStmts f closed ss) ((ss ≡ no_stmts) × (closed ≡ true)) (stmts_move closed ss) vs ws rest)
 
-    clauses_move : (cs : Clauses) (us ws : List Lexeme) → AreClauses e cs us ws → AreClauses f cs us ws
+    clauses_move : (cs : Cases) (us ws : List Lexeme) → AreClauses e cs us ws → AreClauses f cs us ws
     clauses_move no_clauses us ws h = h
     clauses_move (clause p es ss cs) us ws (t, vs, xs, ys, case, mark, inner, rest) =
         (t, vs, xs, ys, case_moves p es us vs case, mark, stmts_move (is_last cs) ss xs ys inner, clauses_move cs ys ws rest)
@@ -200,7 +200,7 @@ module _ (e f : Edition) (later : has_slices e ≡ true → has_slices f ≡ tru
   results_move rs us ws (inr (inl (a, is, of))) = inr (inl (a, is, type_moves a us ws of))
   results_move rs us ws (inr (inr (o, c, vs, xs, bracket, items, close))) = inr (inr (o, c, vs, xs, bracket, items_move (IsType e) (IsType f) _ type_moves rs vs xs items, close))
 
-  function_moves : (g : Function) (us ws : List Lexeme) → IsFunction e g us ws → IsFunction f g us ws
+  function_moves : (g : FunctionDecl) (us ws : List Lexeme) → IsFunction e g us ws → IsFunction f g us ws
   function_moves g us ws (k, t, o, c, vs, xs, ys, zs, zs', zs'', word, at, own, is, bracket, parameters, close, results, body) =
       (k, t, o, c, vs, xs, ys, zs, zs', zs'', word, at, own, is, bracket, items_move (IsParameter e) (IsParameter f) _ parameter_moves g.parameters ys zs parameters, close, results_move g.results zs' zs'' results, block_moves g.body zs'' ws body)
 

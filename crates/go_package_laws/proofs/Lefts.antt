@@ -17,21 +17,21 @@ use Rattle.go_meaning.specs.Choices.{cell_of}
 use Rattle.go_meaning.specs.Values.{single, is_of}
 use Rattle.go_typed.specs.declared.expression.Operator.TheVariants.{Arithmetic, Shift}
 use Rattle.go_typed.specs.Trees.{Symbol, Expr, constant, local, global, field, index, binary, expr_type, Steps, here, to_field, to_element, Left, blank, of_local, of_global, of_slice, Stmt, assign, update}
-use Rattle.go_meaning_laws.specs.WellTyped.{Setting, IsExpr, indexed_type, array_element, is_integer, is_sum, LeadsTo, IsPart, AreLefts, after, source_types, IsStmt}
+use Rattle.go_meaning_laws.specs.WellTyped.{Setting, IsExpr, index_result_type, array_element, is_integer_type, is_sum, LeadsTo, IsWellTypedPart, AreLefts, declared_after, source_types, IsStmt}
 use Rattle.go_expr.specs.Known.{Fine, Breaks}
 use Rattle.go_expr.specs.Rules as rules
 use Rattle.go_expr.specs.Rules.{slice_element, checked}
-use Rattle.go_stmt.specs.Rules.{all_some, Values, suited, is_array, left_to, left_side, assigned_to, updating, stepped}
+use Rattle.go_stmt.specs.Rules.{all_some, AssignedValues, suited, is_array, left_to, left_side, assigned_to, updating, inc_dec_verdict}
 use Rattle.go_package_laws.proofs.Soundness.{Table, IsSoundType, HasSoundWay, IsTypedValue, is_operation, IsSoundValue}
 use Rattle.go_package_laws.proofs.Expected.{Expected}
 use Rattle.go_package_laws.proofs.Related.{SoundLocals}
 use Rattle.go_package_laws.proofs.Values.{checked_part, some_part, own_types, AreDue, SoundDue, AreSoundValues, sound_suited, sound_under}
 
-element_of : (s t : Type') → indexed_type s ≡ Some t → elim s [ array n u ↦ true | _ ↦ false ] ≡ true → array_element s ≡ Some t
+element_of : (s t : Type') → index_result_type s ≡ Some t → elim s [ array n u ↦ true | _ ↦ false ] ≡ true → array_element s ≡ Some t
 element_of (array n u) t h k = h
 element_of s t h k = absurd (true≢false (sym k))
 
-slice_of_type : (s t : Type') → indexed_type s ≡ Some t → is_some (elim s [ slice u ↦ Some u | _ ↦ None ]) ≡ true → s ≡ slice t
+slice_of_type : (s t : Type') → index_result_type s ≡ Some t → is_some (elim s [ slice u ↦ Some u | _ ↦ None ]) ≡ true → s ≡ slice t
 slice_of_type (slice u) t h k = (let same : u ≡ t = cc in ap slice same)
 slice_of_type s t h k = absurd (true≢false (sym k))
 
@@ -47,8 +47,8 @@ typed_integer w (slice t) h k = absurd cc
 typed_integer w (struct fs) h k = absurd cc
 typed_integer w (named p x t) h k = typed_integer w t h.1 k
 
-pub integer_under : (w : Table) (t : Type') → IsSoundType w t → rules.is_integer t ≡ true → is_integer (underlying t) ≡ true
-integer_under w t h k = (let i = typed_integer w t h k in ap is_integer i.1)
+pub integer_under : (w : Table) (t : Type') → IsSoundType w t → rules.is_integer t ≡ true → is_integer_type (underlying t) ≡ true
+integer_under w t h k = (let i = typed_integer w t h k in ap is_integer_type i.1)
 
 one_fits : (i : IntKind) → is_of (basic (basics.Integer i)) (single (cell_of (Integer (pos 1)))) ≡ true
 one_fits integers.Int = refl
@@ -83,13 +83,13 @@ module _ (x : Expected) (w : Table) (g : Setting) where
   SoundVariables = (s : Symbol) (t : Type') → g.variables s ≡ Some t → IsSoundType w t
 
   -- the part of a variable that an expression names
-  left_part : (d : List ℕ) → SoundLocals w g.locals d → SoundVariables → (e : Expr) (ss : Steps) (u : Type') (l : Left) → IsExpr g d e → HasSoundWay w e → LeadsTo g d (expr_type e) ss u → left_to ss e ≡ Some l → IsPart g d l u
+  left_part : (d : List ℕ) → SoundLocals w g.locals d → SoundVariables → (e : Expr) (ss : Steps) (u : Type') (l : Left) → IsExpr g d e → HasSoundWay w e → LeadsTo g d (expr_type e) ss u → left_to ss e ≡ Some l → IsWellTypedPart g d l u
   left_part d l v (local t n) ss u left h way lead is =
       let same : of_local t n ss ≡ left = cc in
-      subst (λ (k : Left). IsPart g d k u) same (h, x.small_type w t (l n t h.0 h.1), lead)
+      subst (λ (k : Left). IsWellTypedPart g d k u) same (h, x.small_type w t (l n t h.0 h.1), lead)
   left_part d l v (global t s) ss u left h way lead is =
       let same : of_global t s ss ≡ left = cc in
-      subst (λ (k : Left). IsPart g d k u) same (h, x.small_type w t (v s t h), lead)
+      subst (λ (k : Left). IsWellTypedPart g d k u) same (h, x.small_type w t (v s t h), lead)
   left_part d l v (field t e n) ss u left h way lead is = left_part d l v e (to_field n ss) u left h.0 way (t, h.1, lead) is
   left_part d l v (index t e i) ss u left h way lead is = elim (cases_Bool (is_array (expr_type e))) [
     | inl whole ↦ (
@@ -102,7 +102,7 @@ module _ (x : Expected) (w : Table) (g : Setting) where
           let same : of_slice (expr_type e) e (to_element i ss) ≡ left = cc in
           let under = slice_of_type (underlying (expr_type e)) t h.3 sliced in
           let sound : IsSoundType w t = subst (IsSoundType w) under (sound_under w (expr_type e) way.0) in
-          subst (λ (k : Left). IsPart g d k u) same (h.0, refl, (t, under, x.small_type w t sound, (h.1, h.2, lead)))
+          subst (λ (k : Left). IsWellTypedPart g d k u) same (h.0, refl, (t, under, x.small_type w t sound, (h.1, h.2, lead)))
           )
       | inr other ↦ absurd (let r : left_to ss (index t e i) ≡ None = rw (not_so, other) refl in cc)
     ]
@@ -136,7 +136,7 @@ module _ (x : Expected) (w : Table) (g : Setting) where
       let part = some_part (left_side (Some e)) (map left_side es) ls is in
       ((left_value d e part.0 h.0 part.2).1, lefts_due d l v es part.1 part.3 h.1)
 
-  front_left : (d : List ℕ) (l : Left) (ls : List Left) (t : Type') (ts : List Type') → IsPart g d l t → AreLefts g d ls ts → AreLefts g d (l ∷ ls) (t ∷ ts)
+  front_left : (d : List ℕ) (l : Left) (ls : List Left) (t : Type') (ts : List Type') → IsWellTypedPart g d l t → AreLefts g d ls ts → AreLefts g d (l ∷ ls) (t ∷ ts)
   front_left d blank ls t ts h k = absurd h
   front_left d (of_local u n ss) ls t ts h k = (h, k)
   front_left d (of_global u s ss) ls t ts h k = (h, k)
@@ -165,9 +165,9 @@ module _ (x : Expected) (w : Table) (g : Setting) where
 
   -- a statement that declares nothing
   abbrev pub Plain : List ℕ → Stmt → Type 0
-  Plain d s = IsStmt g d s × (d ≡ after d s)
+  Plain d s = IsStmt g d s × (d ≡ declared_after d s)
 
-  assigned_by : (d : List ℕ) → SoundLocals w g.locals d → SoundVariables → (es : List (Option Expr)) (values : Values) (o : Option (List Left)) (y : Stmt) → all_some (map left_side es) ≡ o → AllLefts d es → AreSoundValues x w g d values
+  assigned_by : (d : List ℕ) → SoundLocals w g.locals d → SoundVariables → (es : List (Option Expr)) (values : AssignedValues) (o : Option (List Left)) (y : Stmt) → all_some (map left_side es) ≡ o → AllLefts d es → AreSoundValues x w g d values
       → assigned_to es values ≡ Fine y → Plain d y
   assigned_by d l v es values None y at h k is = absurd (let r : assigned_to es values ≡ Breaks Mismatch = rw (at, assigned_to) refl in cc)
   assigned_by d l v es values (Some ls) y at h k is =
@@ -177,24 +177,24 @@ module _ (x : Expected) (w : Table) (g : Setting) where
       let same : assign ls part.0 ≡ y = (let k : Fine (assign ls part.0) ≡ Fine y = part.2 in cc) in
       subst (Plain d) same ((lefts_take d l v es ls (own_types values) (source_types part.0) at h suit.1, suit.0), refl)
 
-  pub sound_assignment : (d : List ℕ) → SoundLocals w g.locals d → SoundVariables → (es : List (Option Expr)) (values : Values) (y : Stmt) → AllLefts d es → AreSoundValues x w g d values → assigned_to es values ≡ Fine y → Plain d y
+  pub sound_assignment : (d : List ℕ) → SoundLocals w g.locals d → SoundVariables → (es : List (Option Expr)) (values : AssignedValues) (y : Stmt) → AllLefts d es → AreSoundValues x w g d values → assigned_to es values ≡ Fine y → Plain d y
   sound_assignment d l v es values y h k is = assigned_by d l v es values (all_some (map left_side es)) y refl h k is
 
   -- ---- updates
 
-  stepped_by : (d : List ℕ) → SoundLocals w g.locals d → SoundVariables → (op : ArithmeticOperator) (e : Expr) (o : Option Left) (b : Bool) (y : Stmt) → left_to here e ≡ o → rules.is_integer (expr_type e) ≡ b → IsSoundValue w g d e → stepped op e ≡ Fine y → Plain d y
-  stepped_by d l v op e None b y at int h is = absurd (let r : stepped op e ≡ Breaks Mismatch = rw (at, stepped) refl in cc)
-  stepped_by d l v op e (Some left) false y at int h is = absurd (let r : stepped op e ≡ Breaks Mismatch = rw (at, stepped, int) refl in cc)
+  stepped_by : (d : List ℕ) → SoundLocals w g.locals d → SoundVariables → (op : ArithmeticOperator) (e : Expr) (o : Option Left) (b : Bool) (y : Stmt) → left_to here e ≡ o → rules.is_integer (expr_type e) ≡ b → IsSoundValue w g d e → inc_dec_verdict op e ≡ Fine y → Plain d y
+  stepped_by d l v op e None b y at int h is = absurd (let r : inc_dec_verdict op e ≡ Breaks Mismatch = rw (at, inc_dec_verdict) refl in cc)
+  stepped_by d l v op e (Some left) false y at int h is = absurd (let r : inc_dec_verdict op e ≡ Breaks Mismatch = rw (at, inc_dec_verdict, int) refl in cc)
   stepped_by d l v op e (Some left) true y at int h is =
       let t = expr_type e in
-      let r : stepped op e ≡ Fine (update t left (Arithmetic op) (constant t (Integer (pos 1)))) = rw (at, stepped, int) refl in
+      let r : inc_dec_verdict op e ≡ Fine (update t left (Arithmetic op) (constant t (Integer (pos 1)))) = rw (at, inc_dec_verdict, int) refl in
       let same : update t left (Arithmetic op) (constant t (Integer (pos 1))) ≡ y = cc in
       let value = left_value d e left h at in
       let i = typed_integer w t value.1 int in
       let sum : is_sum op (underlying t) ≡ true = ap (is_sum op) i.1 ∙ sums_integers op i.0 in
       subst (Plain d) same ((left_part d l v e here t left value.0 value.2 refl at, (one_of t i.0 i.1, refl), (refl, refl, sum)), refl)
 
-  pub sound_step : (d : List ℕ) → SoundLocals w g.locals d → SoundVariables → (op : ArithmeticOperator) (e : Expr) (y : Stmt) → IsSoundValue w g d e → stepped op e ≡ Fine y → Plain d y
+  pub sound_step : (d : List ℕ) → SoundLocals w g.locals d → SoundVariables → (op : ArithmeticOperator) (e : Expr) (y : Stmt) → IsSoundValue w g d e → inc_dec_verdict op e ≡ Fine y → Plain d y
   sound_step d l v op e y h is = stepped_by d l v op e (left_to here e) (rules.is_integer (expr_type e)) y refl refl h is
 
   sum_updated : (d : List ℕ) → SoundLocals w g.locals d → SoundVariables → (t : Type') (op : ArithmeticOperator) (a b : Expr) (o : Option Left) (y : Stmt) → left_to here a ≡ o → IsExpr g d (binary t (Arithmetic op) a b) → HasSoundWay w a → updating (binary t (Arithmetic op) a b) ≡ Fine y → Plain d y
@@ -212,7 +212,7 @@ module _ (x : Expected) (w : Table) (g : Setting) where
       let r : updating (binary t (Shift op) a b) ≡ Fine (update (expr_type a) left (Shift op) b) = rw (at, updating) refl in
       let same : update (expr_type a) left (Shift op) b ≡ y = cc in
       let kinds = h.2 in
-      let int : is_integer (underlying (expr_type a)) ≡ true = ap (λ u. is_integer (underlying u)) kinds.0 ∙ kinds.1 in
+      let int : is_integer_type (underlying (expr_type a)) ≡ true = ap (λ u. is_integer_type (underlying u)) kinds.0 ∙ kinds.1 in
       subst (Plain d) same ((left_part d l v a here (expr_type a) left h.0 way refl at, h.1, (refl, int, kinds.2)), refl)
 
   update_of : (d : List ℕ) → SoundLocals w g.locals d → SoundVariables → (z : Expr) (y : Stmt) → IsExpr g d z → HasSoundWay w z → updating z ≡ Fine y → Plain d y
@@ -223,7 +223,7 @@ module _ (x : Expected) (w : Table) (g : Setting) where
   -- truth values aren't summed or shifted
   no_update : (d : List ℕ) (z : Expr) (y : Stmt) → IsExpr g d z → expr_type z ≡ basic (basics.Untyped kinds.Bool) → updating z ≡ Fine y → ⊥
   no_update d (binary t (Arithmetic op) a b) y h truth is = no_sum op (subst (λ u. is_sum op (underlying u) ≡ true) truth (h.2).2)
-  no_update d (binary t (Shift op) a b) y h truth is = true≢false (sym (subst (λ u. is_integer (underlying u) ≡ true) truth (h.2).1))
+  no_update d (binary t (Shift op) a b) y h truth is = true≢false (sym (subst (λ u. is_integer_type (underlying u) ≡ true) truth (h.2).1))
   no_update d z y h truth is = cc
 
   pub sound_update : (d : List ℕ) → SoundLocals w g.locals d → SoundVariables → (z : Expr) (y : Stmt) → IsSoundValue w g d z → updating z ≡ Fine y → Plain d y

@@ -12,7 +12,7 @@ use Rattle.go_scan.specs.declared.token.TokenKind.{TokenKind}
 use Rattle.go_scan.specs.declared.token.TokenKind.TheVariants as kinds
 use Rattle.go_scan.specs.Lex.{MaySpell, StandsIn}
 use Rattle.go_scan.specs.Words.{IsWord}
-use Rattle.go_ast.specs.Tokens.{bytes_of, lexemes}
+use Rattle.go_ast.specs.Tokens.{lexeme_bytes, lexemes}
 use Rattle.go_meaning_laws.specs.WellTyped.{is_text}
 use Rattle.go_package_laws.proofs.Spelled.{AreTexts}
 
@@ -32,7 +32,7 @@ part_text xs ys text at h =
     let long : length xs + length ys ≡ length text = sym (length-append xs ys) ∙ ap length at in
     (text_of xs (length text) both.0 (omega (arith, long)) whole.1, text_of ys (length text) both.1 (omega (arith, long)) whole.1)
 
-range_text : (text : List ℕ) (t : Token) → is_text text ≡ true → is_text (bytes_of text t) ≡ true
+range_text : (text : List ℕ) (t : Token) → is_text text ≡ true → is_text (lexeme_bytes text t) ≡ true
 range_text text t h =
     let rest = part_text (take t.start text) (drop t.start text) text (take-append-drop t.start text) h in
     (part_text (take (t.end - t.start) (drop t.start text)) (drop (t.end - t.start) (drop t.start text)) (drop t.start text) (take-append-drop (t.end - t.start) (drop t.start text)) rest.1).0
@@ -47,4 +47,4 @@ word_of kind bytes spelled is = by_name (subst (λ (k : TokenKind). MaySpell k b
 pub lexemes_texts : (text : List ℕ) (ts : List Token) → is_text text ≡ true → All (StandsIn text) ts → AreTexts (lexemes text ts)
 lexemes_texts text [] h stand = tt
 lexemes_texts text (t ∷ ts) h stand =
-    ((range_text text t h, λ is. word_of t.kind (bytes_of text t) (All-head (StandsIn text) t ts stand).spelled is), lexemes_texts text ts h (All-tail (StandsIn text) t ts stand))
+    ((range_text text t h, λ is. word_of t.kind (lexeme_bytes text t) (All-head (StandsIn text) t ts stand).spelled is), lexemes_texts text ts h (All-tail (StandsIn text) t ts stand))

@@ -1,72 +1,72 @@
-pub mod Assigned
-pub mod Binary
-pub mod Bodies
-pub mod BodyTexts
-pub mod Calls
-pub mod Cases
-pub mod Completeness
-pub mod Compound
-pub mod Constants
-pub mod DeclaredTexts
-pub mod Declares
-pub mod Defaults
-pub mod Dots
-pub mod Entries
-pub mod Expected
-pub mod Faultless
-pub mod FileTexts
-pub mod Fits
-pub mod Forms
-pub mod Found
-pub mod Functions
+mod Assigned
+mod Binary
+mod Bodies
+mod BodyTexts
+mod Calls
+mod Cases
+mod Completeness
+mod Compound
+mod Constants
+mod DeclaredTexts
+mod Declares
+mod Defaults
+mod Dots
+mod Entries
+mod Expected
+mod Faultless
+mod FileTexts
+mod Fits
+mod Forms
+mod Found
+mod Functions
 pub mod Given
-pub mod Grammar
-pub mod Groups
-pub mod Initial
-pub mod Inits
-pub mod Instances
-pub mod Known
-pub mod LaterEdition
-pub mod Leaves
-pub mod Lefts
-pub mod LexedTexts
-pub mod Lexemes
-pub mod Libraries
-pub mod Links
-pub mod Listed
-pub mod Lists
-pub mod Literals
-pub mod Main
+mod Grammar
+mod Groups
+mod Initial
+mod Inits
+mod Instances
+mod Known
+mod LaterEdition
+mod Leaves
+mod Lefts
+mod LexedTexts
+mod Lexemes
+mod Libraries
+mod Links
+mod Listed
+mod Lists
+mod Literals
+mod Main
 pub mod Meant
-pub mod Numbered
-pub mod Numbers
-pub mod Once
-pub mod Operators
-pub mod Packages
-pub mod Parsed
-pub mod ParsedInstances
-pub mod ParsedTexts
-pub mod Places
-pub mod Programs
-pub mod Related
-pub mod Selections
-pub mod Settled
-pub mod Shifts
-pub mod Shorts
+mod Numbered
+mod Numbers
+mod Once
+mod Operators
+mod Packages
+mod Parsed
+mod ParsedInstances
+mod ParsedTexts
+mod Places
+mod Programs
+mod Related
+mod Selections
+mod Settled
+mod Shifts
+mod Shorts
 pub mod Shown
-pub mod Signed
-pub mod Simples
-pub mod SlicedInstance
-pub mod SlicedText
-pub mod Slices
-pub mod Sound
-pub mod SoundNames
-pub mod Soundness
-pub mod Spelled
-pub mod Strings
-pub mod Tables
-pub mod Texts
-pub mod Types
-pub mod Values
-pub mod Whole
-pub mod Written
+mod Signed
+mod Simples
+mod SlicedInstance
+mod SlicedText
+mod Slices
+mod Sound
+mod SoundNames
+mod Soundness
+mod Spelled
+mod Strings
+mod Tables
+mod Texts
+mod Types
+mod Values
+mod Whole
+mod Written

@@ -5,7 +5,7 @@ use Rattle.std.specs.Map.{lookup}
 use Rattle.std.proofs.lemmas.Bool.{cases_Bool}
 use Rattle.go_expr.specs.Known.{Declared, println, Names, library}
 use Rattle.go_package.specs.Imports.{Importable}
-use Rattle.go_package_laws.specs.Finds.{AreWhole}
+use Rattle.go_package_laws.specs.Finds.{AllImportsAreKnown}
 use Rattle.go_meaning_laws.specs.WellTyped.{Setting}
 use Rattle.go_package_laws.proofs.Soundness.{Table, IsSoundDeclared, AreSoundNames}
 use Rattle.go_package_laws.specs.Packages.{AreLibraries}
@@ -27,6 +27,6 @@ library_whole names is x at =
     let one = only_println x None (ap (lookup (bytes_eq x)) (sym is) ∙ at) in
     cc (one)
 
-pub libraries_whole : (ps : List Importable) → AreLibraries ps → AreWhole (map (λ (p : Importable). (p.path, p.exports)) ps)
+pub libraries_whole : (ps : List Importable) → AreLibraries ps → AllImportsAreKnown (map (λ (p : Importable). (p.path, p.exports)) ps)
 libraries_whole [] h = tt
 libraries_whole (i ∷ is) h = (library_whole i.exports h.0, libraries_whole is h.1)

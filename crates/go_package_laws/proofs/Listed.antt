@@ -11,7 +11,7 @@ use Rattle.go_types.specs.Types.{Type'}
 use Rattle.go_typed.specs.Trees.{Symbol, Function, Variable, Package}
 use Rattle.go_symbol.specs.Symbols.{same_symbol}
 use Rattle.go_meaning.specs.Meaning.{Stored}
-use Rattle.go_meaning.specs.Programs.{symbol_of, package_functions, first_variables}
+use Rattle.go_meaning.specs.Programs.{package_symbol, package_functions, first_variables}
 use Rattle.go_meaning.specs.Programs as meaning
 use Rattle.go_meaning_laws.specs.WellTyped.{signature_at, variable_at}
 use Rattle.go_package_laws.proofs.Soundness.{Table}
@@ -66,26 +66,26 @@ find_stay test [] ys h = h
 find_stay test (x ∷ xs) ys h = elim (cases_Bool (test x)) [ inl is ↦ rw is refl | inr not_so ↦ rw not_so (find_stay test xs ys h) ]
 
 module _ {A : Type 0} (items : Package → List A) (test : Symbol → A → Bool) (none : (q : Package) (s : Symbol) → bytes_eq s.path q.path ≡ false → find (test s) (items q) ≡ None) where
-  none_in : (p : Package) (x : List ℕ) (ps : List Package) → Apart p ps → find (test (symbol_of p x)) (flat_map items ps) ≡ None
+  none_in : (p : Package) (x : List ℕ) (ps : List Package) → Apart p ps → find (test (package_symbol p x)) (flat_map items ps) ≡ None
   none_in p x [] apart = refl
   none_in p x (q ∷ ps) apart =
       let other = unlike p.path q.path (All-head (λ (q : Package). p.path ≢ q.path) q ps apart) in
-      find_skip (test (symbol_of p x)) (items q) (flat_map items ps) (none q (symbol_of p x) other) ∙ none_in p x ps (All-tail (λ (q : Package). p.path ≢ q.path) q ps apart)
+      find_skip (test (package_symbol p x)) (items q) (flat_map items ps) (none q (package_symbol p x) other) ∙ none_in p x ps (All-tail (λ (q : Package). p.path ≢ q.path) q ps apart)
 
-  pub own_items : (ps : List Package) → Differ ps → (k : ℕ) (p : Package) → slice_get ps k ≡ Some p → (x : List ℕ) → find (test (symbol_of p x)) (flat_map items ps) ≡ find (test (symbol_of p x)) (items p)
+  pub own_items : (ps : List Package) → Differ ps → (k : ℕ) (p : Package) → slice_get ps k ≡ Some p → (x : List ℕ) → find (test (package_symbol p x)) (flat_map items ps) ≡ find (test (package_symbol p x)) (items p)
   own_items [] h k p at x = absurd cc
   own_items (q ∷ ps) h zero p at x =
       let same : q ≡ p = cc (at) in
-      subst (λ (r : Package). find (test (symbol_of r x)) (items q ++ flat_map items ps) ≡ find (test (symbol_of r x)) (items r)) same
-      (find_stay (test (symbol_of q x)) (items q) (flat_map items ps) (none_in q x ps h.0))
+      subst (λ (r : Package). find (test (package_symbol r x)) (items q ++ flat_map items ps) ≡ find (test (package_symbol r x)) (items r)) same
+      (find_stay (test (package_symbol q x)) (items q) (flat_map items ps) (none_in q x ps h.0))
   own_items (q ∷ ps) h (suc k) p at x =
       let apart : q.path ≢ p.path = at_all (λ (r : Package). q.path ≢ r.path) ps h.0 k p at in
       let other = unlike p.path q.path (λ same. apart (sym same)) in
-      find_skip (test (symbol_of p x)) (items q) (flat_map items ps) (none q (symbol_of p x) other) ∙ own_items ps h.1 k p at x
+      find_skip (test (package_symbol p x)) (items q) (flat_map items ps) (none q (package_symbol p x) other) ∙ own_items ps h.1 k p at x
 
 -- ---- functions and variables
 
-no_function : (q : Package) (s : Symbol) → bytes_eq s.path q.path ≡ false → (fs : List Function) → find (λ (d : meaning.Declared). same_symbol s d.symbol) (map (λ (f : Function). record { symbol = symbol_of q f.name; function = f }) fs) ≡ None
+no_function : (q : Package) (s : Symbol) → bytes_eq s.path q.path ≡ false → (fs : List Function) → find (λ (d : meaning.DeclaredFunction). same_symbol s d.symbol) (map (λ (f : Function). record { symbol = package_symbol q f.name; function = f }) fs) ≡ None
 no_function q s other [] = refl
 no_function q s other (f ∷ fs) = rw other (no_function q s other fs)
 
@@ -93,14 +93,14 @@ no_variable : (q : Package) (s : Symbol) → bytes_eq s.path q.path ≡ false �
 no_variable q s other [] = refl
 no_variable q s other (v ∷ vs) = rw other (no_variable q s other vs)
 
-own_functions : (ps : List Package) → Differ ps → (k : ℕ) (p : Package) → slice_get ps k ≡ Some p → (x : List ℕ) → signature_at ps (symbol_of p x) ≡ signature_at (p ∷ []) (symbol_of p x)
+own_functions : (ps : List Package) → Differ ps → (k : ℕ) (p : Package) → slice_get ps k ≡ Some p → (x : List ℕ) → signature_at ps (package_symbol p x) ≡ signature_at (p ∷ []) (package_symbol p x)
 own_functions ps h k p at x =
-    let test = λ (s : Symbol) (d : meaning.Declared). same_symbol s d.symbol in
+    let test = λ (s : Symbol) (d : meaning.DeclaredFunction). same_symbol s d.symbol in
     let all = own_items package_functions test (λ q s other. no_function q s other q.functions) ps h k p at x in
     let alone = own_items package_functions test (λ q s other. no_function q s other q.functions) (p ∷ []) (All-nil (λ (q : Package). p.path ≢ q.path), tt) 0 p refl x in
-    ap (λ (o : Option meaning.Declared). option_map (λ (f : Function). record { parameters = f.parameters; results = f.results }) (option_map (λ (d : meaning.Declared). d.function) o)) (all ∙ sym alone)
+    ap (λ (o : Option meaning.DeclaredFunction). option_map (λ (f : Function). record { parameters = f.parameters; results = f.results }) (option_map (λ (d : meaning.DeclaredFunction). d.function) o)) (all ∙ sym alone)
 
-own_variables : (ps : List Package) → Differ ps → (k : ℕ) (p : Package) → slice_get ps k ≡ Some p → (x : List ℕ) → variable_at ps (symbol_of p x) ≡ variable_at (p ∷ []) (symbol_of p x)
+own_variables : (ps : List Package) → Differ ps → (k : ℕ) (p : Package) → slice_get ps k ≡ Some p → (x : List ℕ) → variable_at ps (package_symbol p x) ≡ variable_at (p ∷ []) (package_symbol p x)
 own_variables ps h k p at x =
     let test = λ (s : Symbol) (v : Stored). same_symbol s v.symbol in
     let all = own_items first_variables test (λ q s other. no_variable q s other q.variables) ps h k p at x in

@@ -19,7 +19,7 @@ use Rattle.go_typed.specs.Trees.{Expr, expr_type, pack_exprs, pack_parts}
 use Rattle.go_meaning.specs.Meaning.{most_cells}
 use Rattle.go_meaning_laws.specs.WellTyped.{Setting, part_type, IsExpr, AreElements, AreParts}
 use Rattle.go_expr.specs.Known.{type', Known, declared, Verdict, Fine, Breaks, Passed}
-use Rattle.go_expr.specs.Rules.{fine, constant_in, lesser, least, when, wrong, each_unless, numbered, checked, type_due, is_small, array_of, slice_of, slice_element, FieldList, declared_field, field_names, packed, differ, listed, struct_of, assigned, ElementList, field_named, any_keyed, field_slot, keyed_slot, element_part, parts_by, array_parts, slice_parts, is_counted, struct_faults, struct_slot, struct_parts, parts_of, literal_of, Due, taken, written, nothing, element_due, due_type, unwritten, untyped_literal}
+use Rattle.go_expr.specs.Rules.{fine, constant_in, lesser_fault, least, when, wrong, fine_list, numbered, checked, type_due, is_small, array_verdict, slice_verdict, slice_element, FieldList, declared_field, field_names, pack_field_list, are_distinct, listed, struct_of, assigned, ElementList, field_named, any_keyed, field_slot, keyed_slot, element_part, parts_by, array_parts, slice_parts, is_counted, struct_faults, struct_slot, struct_parts, parts_of, literal_of, Due, taken, written, nothing, element_due, due_type, unwritten, untyped_literal}
 use Rattle.go_package_laws.proofs.Soundness.{Table, IsNamedField, IsSoundType, AreSoundFields, IsSoundValue}
 use Rattle.go_package_laws.proofs.SoundNames.{IsSoundKnown}
 use Rattle.go_package_laws.proofs.Texts.{AreWords}
@@ -38,7 +38,7 @@ pub every_append : {A : Type 0} (P : A → Type 0) (xs ys : List A) → Every P 
 every_append P [] ys h k = k
 every_append P (x ∷ xs) ys h k = (h.0, every_append P xs ys h.1 k)
 
-lesser_some : (k : FaultKind) (o : Option FaultKind) → lesser (Some k) o ≡ None → ⊥
+lesser_some : (k : FaultKind) (o : Option FaultKind) → lesser_fault (Some k) o ≡ None → ⊥
 lesser_some k None h = some_none k h
 lesser_some k (Some l) h = elim (cases_Bool (nat_le (fault_number k) (fault_number l))) [
   | inl is ↦ some_none k (sym (ap (λ b. if b then Some k else Some l) is) ∙ h)
@@ -60,8 +60,8 @@ fine_ones P (Breaks kind ∷ vs) h = fine_ones P vs h.1
 fine_ones P (Passed ∷ vs) h = fine_ones P vs h.1
 
 -- each of some, where no fault was told
-pub each_gives : {A : Type 0} (P : List A → Type 0) (ks : List FaultKind) (vs : List (Verdict A)) → ((ks ≡ []) → (flat_map wrong vs ≡ []) → P (filter_map fine vs)) → Gives P (each_unless ks vs)
-each_gives {A} P ks vs each = elim (least (ks ++ flat_map wrong vs)) as (λ o. least (ks ++ flat_map wrong vs) ≡ o → Gives P (each_unless ks vs)) [
+pub each_gives : {A : Type 0} (P : List A → Type 0) (ks : List FaultKind) (vs : List (Verdict A)) → ((ks ≡ []) → (flat_map wrong vs ≡ []) → P (filter_map fine vs)) → Gives P (fine_list ks vs)
+each_gives {A} P ks vs each = elim (least (ks ++ flat_map wrong vs)) as (λ o. least (ks ++ flat_map wrong vs) ≡ o → Gives P (fine_list ks vs)) [
   | Some k ↦ λ at. rw (at, Gives) tt
   | None ↦ λ at. (let none = both_empty ks (flat_map wrong vs) (least_none (ks ++ flat_map wrong vs) at) in rw (at, Gives) (each none.0 none.1))
 ] refl
@@ -257,7 +257,7 @@ module _ (w : Table) (g : Setting) (d : List ℕ) where
   type_due_gives (declared k) h = tt
   type_due_gives k h = tt
 
-  array_if : (size : Expr) (of : Type') (n : ℕ) → constant_in size ≡ Some (Integer (pos n)) → IsSoundType w of → (b : Bool) → (nat_le n 65536 && is_small (array n of)) ≡ b → Gives (IsSoundType w) (array_of size of)
+  array_if : (size : Expr) (of : Type') (n : ℕ) → constant_in size ≡ Some (Integer (pos n)) → IsSoundType w of → (b : Bool) → (nat_le n 65536 && is_small (array n of)) ≡ b → Gives (IsSoundType w) (array_verdict size of)
   array_if size of n at h false is = rw (at, Gives, is) tt
   array_if size of n at h true is = (
       let both = and_parts (nat_le n 65536) (is_small (array n of)) is in
@@ -265,8 +265,8 @@ module _ (w : Table) (g : Setting) (d : List ℕ) where
       rw (at, Gives, is) (both.0, most (cells (array n of)) small.1, h)
       )
 
-  pub array_of_gives : (size : Expr) (of : Type') → IsSoundType w of → Gives (IsSoundType w) (array_of size of)
-  array_of_gives size of h = elim (constant_in size) as (λ o. constant_in size ≡ o → Gives (IsSoundType w) (array_of size of)) [
+  pub array_of_gives : (size : Expr) (of : Type') → IsSoundType w of → Gives (IsSoundType w) (array_verdict size of)
+  array_of_gives size of h = elim (constant_in size) as (λ o. constant_in size ≡ o → Gives (IsSoundType w) (array_verdict size of)) [
     | Some (Integer (pos n)) ↦ λ at. array_if size of n at h (nat_le n 65536 && is_small (array n of)) refl
     | Some (Integer (negsuc n)) ↦ λ at. rw (at, Gives) tt
     | Some (Text bytes) ↦ λ at. rw (at, Gives) tt
@@ -274,33 +274,33 @@ module _ (w : Table) (g : Setting) (d : List ℕ) where
     | None ↦ λ at. rw (at, Gives) tt
   ] refl
 
-  slice_if : (of : Type') → IsSoundType w of → (b : Bool) → is_small (slice of) ≡ b → Gives (IsSoundType w) (slice_of of)
+  slice_if : (of : Type') → IsSoundType w of → (b : Bool) → is_small (slice of) ≡ b → Gives (IsSoundType w) (slice_verdict of)
   slice_if of h false is = rw is tt
   slice_if of h true is = rw is h
 
-  pub slice_of_gives : (of : Type') → IsSoundType w of → Gives (IsSoundType w) (slice_of of)
+  pub slice_of_gives : (of : Type') → IsSoundType w of → Gives (IsSoundType w) (slice_verdict of)
   slice_of_gives of h = slice_if of h (is_small (slice of)) refl
 
   -- fields as a list
   abbrev pub IsSoundField : Option (List ℕ) × (List ℕ × Type') → Type 0
   IsSoundField f = IsSoundType w (f.1).1 × IsNamedField w f.0 (f.1).0
 
-  packed_fields : (fs : FieldList) → Every IsSoundField fs → AreSoundFields w (packed fs)
+  packed_fields : (fs : FieldList) → Every IsSoundField fs → AreSoundFields w (pack_field_list fs)
   packed_fields [] h = tt
   packed_fields (f ∷ fs) h = ((h.0).0, packed_fields fs h.1, (h.0).1)
 
-  struct_if : (fs : FieldList) → Every IsSoundField fs → (a b c : Bool) → list_any (bytes_eq (codes "_")) (field_names fs) ≡ a → is_small (struct (packed fs)) ≡ b → differ (field_names fs) ≡ c
+  struct_if : (fs : FieldList) → Every IsSoundField fs → (a b c : Bool) → list_any (bytes_eq (codes "_")) (field_names fs) ≡ a → is_small (struct (pack_field_list fs)) ≡ b → are_distinct (field_names fs) ≡ c
       → Gives (IsSoundType w) (struct_of fs)
   struct_if fs h true b c blank small differs = rw blank tt
   struct_if fs h false false c blank small differs = rw (blank, small) tt
   struct_if fs h false true false blank small differs = rw (blank, small, differs) tt
   struct_if fs h false true true blank small differs = (
-      let both = and_parts (nat_le (nodes (struct (packed fs))) 65536) (nat_le (cells (struct (packed fs))) 65536) small in
-      rw (blank, small, differs) (most (cells (struct (packed fs))) both.1, packed_fields fs h)
+      let both = and_parts (nat_le (nodes (struct (pack_field_list fs))) 65536) (nat_le (cells (struct (pack_field_list fs))) 65536) small in
+      rw (blank, small, differs) (most (cells (struct (pack_field_list fs))) both.1, packed_fields fs h)
       )
 
   pub struct_of_gives : (fs : FieldList) → Every IsSoundField fs → Gives (IsSoundType w) (struct_of fs)
-  struct_of_gives fs h = struct_if fs h (list_any (bytes_eq (codes "_")) (field_names fs)) (is_small (struct (packed fs))) (differ (field_names fs)) refl refl refl
+  struct_of_gives fs h = struct_if fs h (list_any (bytes_eq (codes "_")) (field_names fs)) (is_small (struct (pack_field_list fs))) (are_distinct (field_names fs)) refl refl refl
 
   owner_named : (path : List ℕ) (b : Bool) (x : List ℕ) → w.plain path ≡ true → IsWord x → IsNamedField w (if b then None else Some path) x
   owner_named path true x plain word = word

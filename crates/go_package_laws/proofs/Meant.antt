@@ -8,7 +8,7 @@ use Rattle.go_link.specs.declared.link.LinkError.TheVariants.{NoMain}
 use Rattle.go_link.specs.Links.{link_refusal}
 use Rattle.go_typed.specs.Trees.{Package}
 use Rattle.go_meaning.specs.Meaning.{Stuck}
-use Rattle.go_meaning.specs.Programs.{IsProgram, run}
+use Rattle.go_meaning.specs.Programs.{IsProgram, run_program}
 use Rattle.go_package.specs.Imports.{Importable}
 use Rattle.go_package.specs.Packages.{package_in}
 use Rattle.go_package.specs.Typed.{IsTypedIn}
@@ -36,7 +36,7 @@ module _ (packages : List Package) (are : AreChecked packages) (named : IsNamedM
   pub packages_sense : (image : Image) (ticks : ℕ) → IsLinked packages image → MakesSense image ticks
   packages_sense image ticks linked = always_sense packages image (packages_typed packages are named).0 linked ticks
 
-  pub packages_never : (ticks : ℕ) → run packages ticks ≢ Stuck
+  pub packages_never : (ticks : ℕ) → run_program packages ticks ≢ Stuck
   packages_never ticks = never_stuck packages (packages_typed packages are named).0 ticks
 
   pub packages_mean : (ticks : ℕ) → HasMeaning packages ticks

@@ -10,10 +10,10 @@ use Rattle.go_ast.specs.Trees.{Name}
 use Rattle.go_scope.specs.Scopes as scopes
 use Rattle.go_types.specs.Types.{Type'}
 use Rattle.go_typed.specs.Trees.{constant, local}
-use Rattle.go_meaning_laws.specs.WellTyped.{Setting, has, numbers, Suits, AreNew}
-use Rattle.go_expr.specs.Known.{Declared, value, Known, declared, Verdict, Fine, named, look_up}
+use Rattle.go_meaning_laws.specs.WellTyped.{Setting, has, known_numbers, Suits, AreNew}
+use Rattle.go_expr.specs.Known.{Declared, value, Known, declared, Verdict, Fine, named, look_up_known}
 use Rattle.go_scope.specs.Scopes.{is_blank}
-use Rattle.go_stmt.specs.Scopes.{Env, Context, scope_in, own, number_of, declare_variable, paired, declare_new}
+use Rattle.go_stmt.specs.Scopes.{StatementEnv, Context, scope_in, own, variable_number, declare_variable, paired_names, declare_new}
 use Rattle.go_package_laws.proofs.Soundness.{Table, IsSoundType}
 use Rattle.go_package_laws.proofs.SoundNames.{IsSoundKnown, IsSoundScope}
 use Rattle.go_package_laws.proofs.Related.{SoundLocals, IsSoundName, AllSound, BlocksSound, Related, Lies, Grows, grows_none, grows_on, lies_before, Covers, has_behind, all_sound_covers, blocks_cover}
@@ -23,7 +23,7 @@ use Rattle.go_package_laws.proofs.Related.{SoundLocals, IsSoundName, AllSound, B
 module _ (w : Table) (g : Setting) where
   -- names outside of the function are sound, and the package's path is plain
   abbrev pub Outside : Context → Type 0
-  Outside c = (w.plain c.path ≡ true) × ((iota : Option ℕ) (d : List ℕ) (x : List ℕ) (k : Known) → look_up x (c.outside iota) ≡ Fine k → IsSoundKnown w g d k)
+  Outside c = (w.plain c.path ≡ true) × ((iota : Option ℕ) (d : List ℕ) (x : List ℕ) (k : Known) → look_up_known x (c.outside iota) ≡ Fine k → IsSoundKnown w g d k)
 
   name_known : (d : List ℕ) → SoundLocals w g.locals d → (o : Option Declared) → IsSoundName w g.locals d o → (k : Known) → named o ≡ Fine k → IsSoundKnown w g d k
   name_known d l None h k is = absurd cc
@@ -43,16 +43,16 @@ module _ (w : Table) (g : Setting) where
   flat_sound d (b ∷ bs) h = more_sound d b (flat_map (λ b. b) bs) h.0 (flat_sound d bs h.1)
 
   found : (d : List ℕ) → SoundLocals w g.locals d → (ns : List (List ℕ × Option Declared)) (rest : List (List ℕ × Verdict Known)) (x : List ℕ) (k : Known) → AllSound w g.locals d ns
-      → (look_up x rest ≡ Fine k → IsSoundKnown w g d k) → look_up x (map (λ n. (n.0, named n.1)) ns ++ rest) ≡ Fine k → IsSoundKnown w g d k
+      → (look_up_known x rest ≡ Fine k → IsSoundKnown w g d k) → look_up_known x (map (λ n. (n.0, named n.1)) ns ++ rest) ≡ Fine k → IsSoundKnown w g d k
   found d l [] rest x k h out is = out is
   found d l ((y, o) ∷ ns) rest x k h out is = elim (cases_Bool (bytes_eq x y)) [
-    | inl here ↦ name_known d l o h.1 k (let r : look_up x (map (λ n. (n.0, named n.1)) ((y, o) ∷ ns) ++ rest) ≡ named o = rw here refl in sym r ∙ is)
+    | inl here ↦ name_known d l o h.1 k (let r : look_up_known x (map (λ n. (n.0, named n.1)) ((y, o) ∷ ns) ++ rest) ≡ named o = rw here refl in sym r ∙ is)
     | inr not_so ↦ found d l ns rest x k h.2 out (
-        let r : look_up x (map (λ n. (n.0, named n.1)) ((y, o) ∷ ns) ++ rest) ≡ look_up x (map (λ n. (n.0, named n.1)) ns ++ rest) = rw not_so refl in
+        let r : look_up_known x (map (λ n. (n.0, named n.1)) ((y, o) ∷ ns) ++ rest) ≡ look_up_known x (map (λ n. (n.0, named n.1)) ns ++ rest) = rw not_so refl in
         sym r ∙ is)
   ]
 
-  pub scope_sound : (c : Context) → Outside c → (env : Env) (d : List ℕ) → Related w g.locals env d → (iota : Option ℕ) → IsSoundScope w g d (scope_in c iota env)
+  pub scope_sound : (c : Context) → Outside c → (env : StatementEnv) (d : List ℕ) → Related w g.locals env d → (iota : Option ℕ) → IsSoundScope w g d (scope_in c iota env)
   scope_sound c out env d r iota = (
     out.0,
     λ x k is.
@@ -97,36 +97,36 @@ passed_by x y [] o differs = rw differs refl
 passed_by x y ((z, p) ∷ ns) o differs = elim (cases_Bool (bytes_eq x z)) [ inl is ↦ rw is refl | inr not_so ↦ rw not_so (passed_by x y ns o differs) ]
 
 -- what declaring a variable does where it does something
-abbrev with_variable : Name → Type' → Env → Env
+abbrev with_variable : Name → Type' → StatementEnv → StatementEnv
 with_variable n t env = declare_variable n.text (Some t) env
 
-abbrev pub next : Name → Option Type' → Env → Env
+abbrev pub next : Name → Option Type' → StatementEnv → StatementEnv
 next n t env = declare_new ((n, t) ∷ []) env
 
-pub next_blank : (n : Name) (t : Option Type') (env : Env) → is_blank n.text ≡ true → next n t env ≡ env
+pub next_blank : (n : Name) (t : Option Type') (env : StatementEnv) → is_blank n.text ≡ true → next n t env ≡ env
 next_blank n t env h = rw h refl
 
-is_own_known : (env : Env) (n : Name) (o : Option (Option Declared)) → own env n ≡ o → scopes.is_own env.names n.text ≡ is_some o
+is_own_known : (env : StatementEnv) (n : Name) (o : Option (Option Declared)) → own env n ≡ o → scopes.is_own env.names n.text ≡ is_some o
 is_own_known env n o h = ap is_some h
 
-next_own : (n : Name) (t : Option Type') (env : Env) (o : Option Declared) → own env n ≡ Some o → next n t env ≡ env
+next_own : (n : Name) (t : Option Type') (env : StatementEnv) (o : Option Declared) → own env n ≡ Some o → next n t env ≡ env
 next_own n t env o h = elim (cases_Bool (is_blank n.text)) [ inl is ↦ rw is refl | inr sure ↦ (let k : scopes.is_own env.names n.text ≡ true = is_own_known env n (Some o) h in rw (sure, k) refl) ]
 
-next_new : (n : Name) (t : Option Type') (env : Env) → is_blank n.text ≡ false → own env n ≡ None → next n t env ≡ declare_variable n.text t env
+next_new : (n : Name) (t : Option Type') (env : StatementEnv) → is_blank n.text ≡ false → own env n ≡ None → next n t env ≡ declare_variable n.text t env
 next_new n t env h k = (let r : scopes.is_own env.names n.text ≡ false = is_own_known env n None k in rw (h, r) refl)
 
-added : Name → Type' → Env → Env
+added : Name → Type' → StatementEnv → StatementEnv
 added n t env = record { names = record { inner = env.names.inner ++ (n.text, Some (value (local t (length env.types)))) ∷ []; outer = env.names.outer }; types = env.types ++ t ∷ [] }
 
-new_added : (n : Name) (t : Type') (env : Env) → is_blank n.text ≡ false → with_variable n t env ≡ added n t env
+new_added : (n : Name) (t : Type') (env : StatementEnv) → is_blank n.text ≡ false → with_variable n t env ≡ added n t env
 unfolding added
 new_added n t env h = rw h refl
 
-added_own : (n : Name) (v : Type') (env : Env) → own env n ≡ None → own (added n v env) n ≡ Some (Some (value (local v (length env.types))))
+added_own : (n : Name) (v : Type') (env : StatementEnv) → own env n ≡ None → own (added n v env) n ≡ Some (Some (value (local v (length env.types))))
 unfolding added
 added_own n v env none = found_last n.text n.text env.names.inner (Some (value (local v (length env.types)))) none (text_same n.text)
 
-added_types : (n : Name) (v : Type') (env : Env) → (added n v env).types ≡ env.types ++ v ∷ []
+added_types : (n : Name) (v : Type') (env : StatementEnv) → (added n v env).types ≡ env.types ++ v ∷ []
 unfolding added
 added_types n v env = refl
 
@@ -134,26 +134,26 @@ first_has : (m : ℕ) (d : List ℕ) → has (m ∷ d) m ≡ true
 first_has m d = (let r : nat_eq m m ≡ true = (Decides-eqb m m).1 refl in rw r refl)
 
 -- a name stays what it is
-own_variable : (m : Name) (t : Option Type') (env : Env) (n : Name) (o : Option Declared) → own env n ≡ Some o → own (declare_variable m.text t env) n ≡ Some o
+own_variable : (m : Name) (t : Option Type') (env : StatementEnv) (n : Name) (o : Option Declared) → own env n ≡ Some o → own (declare_variable m.text t env) n ≡ Some o
 own_variable m None env n o h = elim (cases_Bool (is_blank m.text)) [ inl is ↦ rw is h | inr not_so ↦ rw not_so (stays_found n.text env.names.inner ((m.text, None) ∷ []) o h) ]
 own_variable m (Some t) env n o h = elim (cases_Bool (is_blank m.text)) [ inl is ↦ rw is h | inr not_so ↦ rw not_so (stays_found n.text env.names.inner ((m.text, Some (value (local t (length env.types)))) ∷ []) o h) ]
 
-own_next : (m : Name) (t : Option Type') (env : Env) (n : Name) (o : Option Declared) → own env n ≡ Some o → own (next m t env) n ≡ Some o
+own_next : (m : Name) (t : Option Type') (env : StatementEnv) (n : Name) (o : Option Declared) → own env n ≡ Some o → own (next m t env) n ≡ Some o
 own_next m t env n o h = elim (cases_Bool (is_blank m.text)) [
   | inl is ↦ rw is h
   | inr sure ↦ elim (cases_Bool (scopes.is_own env.names m.text)) [ inl is ↦ rw (sure, is) h | inr not_so ↦ rw (sure, not_so) (own_variable m t env n o h) ]
 ]
 
-own_stays : (ns : List (Name × Option Type')) (env : Env) (n : Name) (o : Option Declared) → own env n ≡ Some o → own (declare_new ns env) n ≡ Some o
+own_stays : (ns : List (Name × Option Type')) (env : StatementEnv) (n : Name) (o : Option Declared) → own env n ≡ Some o → own (declare_new ns env) n ≡ Some o
 own_stays [] env n o h = h
 own_stays ((m, t) ∷ ns) env n o h = own_stays ns (next m t env) n o (own_next m t env n o h)
 
 -- another name doesn't change it
-other_variable : (m : Name) (t : Option Type') (env : Env) (n : Name) → bytes_eq n.text m.text ≡ false → own (declare_variable m.text t env) n ≡ own env n
+other_variable : (m : Name) (t : Option Type') (env : StatementEnv) (n : Name) → bytes_eq n.text m.text ≡ false → own (declare_variable m.text t env) n ≡ own env n
 other_variable m None env n h = elim (cases_Bool (is_blank m.text)) [ inl is ↦ rw is refl | inr not_so ↦ rw not_so (passed_by n.text m.text env.names.inner None h) ]
 other_variable m (Some t) env n h = elim (cases_Bool (is_blank m.text)) [ inl is ↦ rw is refl | inr not_so ↦ rw not_so (passed_by n.text m.text env.names.inner (Some (value (local t (length env.types)))) h) ]
 
-pub own_other : (m : Name) (t : Option Type') (env : Env) (n : Name) → bytes_eq n.text m.text ≡ false → own (next m t env) n ≡ own env n
+pub own_other : (m : Name) (t : Option Type') (env : StatementEnv) (n : Name) → bytes_eq n.text m.text ≡ false → own (next m t env) n ≡ own env n
 own_other m t env n h = elim (cases_Bool (is_blank m.text)) [
   | inl is ↦ rw is refl
   | inr sure ↦ elim (cases_Bool (scopes.is_own env.names m.text)) [ inl is ↦ rw (sure, is) refl | inr not_so ↦ rw (sure, not_so) (other_variable m t env n h) ]
@@ -161,17 +161,17 @@ own_other m t env n h = elim (cases_Bool (is_blank m.text)) [
 
 -- ---- what grows
 
-pub variable_grows : (x : List ℕ) (t : Option Type') (env : Env) → Grows env (declare_variable x t env)
+pub variable_grows : (x : List ℕ) (t : Option Type') (env : StatementEnv) → Grows env (declare_variable x t env)
 variable_grows x None env = elim (cases_Bool (is_blank x)) [ inl is ↦ rw is (refl, ([], append-nil env.types)) | inr not_so ↦ rw not_so (refl, ([], append-nil env.types)) ]
 variable_grows x (Some t) env = elim (cases_Bool (is_blank x)) [ inl is ↦ rw is (refl, (t ∷ [], refl)) | inr not_so ↦ rw not_so (refl, (t ∷ [], refl)) ]
 
-next_grows : (n : Name) (t : Option Type') (env : Env) → Grows env (next n t env)
+next_grows : (n : Name) (t : Option Type') (env : StatementEnv) → Grows env (next n t env)
 next_grows n t env = elim (cases_Bool (is_blank n.text)) [
   | inl is ↦ rw is (grows_none env)
   | inr sure ↦ elim (cases_Bool (scopes.is_own env.names n.text)) [ inl is ↦ rw (sure, is) (grows_none env) | inr not_so ↦ rw (sure, not_so) (variable_grows n.text t env) ]
 ]
 
-pub new_grows : (ns : List (Name × Option Type')) (env : Env) → Grows env (declare_new ns env)
+pub new_grows : (ns : List (Name × Option Type')) (env : StatementEnv) → Grows env (declare_new ns env)
 new_grows [] env = grows_none env
 new_grows ((n, t) ∷ ns) env = grows_on env (next n t env) (declare_new ns (next n t env)) (next_grows n t env) (new_grows ns (next n t env))
 
@@ -180,7 +180,7 @@ new_grows ((n, t) ∷ ns) env = grows_on env (next n t env) (declare_new ns (nex
 blank_text : (x : List ℕ) → is_blank x ≡ true → x ≡ codes "_"
 blank_text x h = same_text x (codes "_") h
 
-abbrev NoBlanks : Env → Type 0
+abbrev NoBlanks : StatementEnv → Type 0
 NoBlanks env = (n : Name) → is_blank n.text ≡ true → own env n ≡ None
 
 -- what is blank is no other name
@@ -190,18 +190,18 @@ blank_differs x y h k = elim (cases_Bool (bytes_eq x y)) [
   | inr not_so ↦ not_so
 ]
 
-blanks_next : (m : Name) (t : Option Type') (env : Env) → NoBlanks env → NoBlanks (next m t env)
+blanks_next : (m : Name) (t : Option Type') (env : StatementEnv) → NoBlanks env → NoBlanks (next m t env)
 blanks_next m t env none n blank = elim (cases_Bool (is_blank m.text)) [
   | inl is ↦ rw is (none n blank)
   | inr sure ↦ own_other m t env n (blank_differs n.text m.text blank sure) ∙ none n blank
 ]
 
-blanks_stay : (ns : List (Name × Option Type')) (env : Env) → NoBlanks env → NoBlanks (declare_new ns env)
+blanks_stay : (ns : List (Name × Option Type')) (env : StatementEnv) → NoBlanks env → NoBlanks (declare_new ns env)
 blanks_stay [] env h = h
 blanks_stay ((n, t) ∷ ns) env h = blanks_stay ns (next n t env) (blanks_next n t env h)
 
-pub numbered : (env : Env) (n : Name) (o : Option (Option Declared)) → own env n ≡ o → number_of env n ≡ elim o [ Some (Some (value (local t k))) ↦ Some k | _ ↦ None ]
-numbered env n o h = rw (h, number_of) refl
+pub numbered : (env : StatementEnv) (n : Name) (o : Option (Option Declared)) → own env n ≡ o → variable_number env n ≡ elim o [ Some (Some (value (local t k))) ↦ Some k | _ ↦ None ]
+numbered env n o h = rw (h, variable_number) refl
 
 -- what stands in the first of two lists
 pub nth_left : {A : Type 0} (xs ys : List A) (n : ℕ) → n < length xs → slice_get (xs ++ ys) n ≡ slice_get xs n
@@ -225,40 +225,40 @@ module _ (w : Table) (locals : List Type') where
   blank_none d ((y, o) ∷ ns) x h blank = (let r : bytes_eq x y ≡ false = blank_differs x y blank h.0 in rw r (blank_none d ns x h.2 blank))
 
   -- the name is blank; or it is a variable's already; or it is new
-  abbrev pub FitsName : Env → Name → Type' → Type' → Type 0
+  abbrev pub FitsName : StatementEnv → Name → Type' → Type' → Type 0
   FitsName env n v t = (is_blank n.text ≡ true)
       ⊎ ((u : Type') × (k : ℕ) × (own env n ≡ Some (Some (value (local u k)))) × Suits t u × IsSoundType w u × (slice_get locals k ≡ Some u))
       ⊎ ((is_blank n.text ≡ false) × (own env n ≡ None) × Suits t v × IsSoundType w v)
 
-  abbrev pub Ready : Env → List Name → List Type' → List Type' → Type 0
+  abbrev pub Ready : StatementEnv → List Name → List Type' → List Type' → Type 0
   Ready env [] [] [] = Unit {0}
   Ready env (n ∷ ns) (v ∷ vs) (t ∷ ts) = FitsName env n v t × Ready (next n (Some v) env) ns vs ts
   Ready env ns vs ts = ⊥
 
   -- it has a number, and the variable of that number takes a value of the type
-  abbrev Numbered : Env → Name → Type' → Type 0
-  Numbered final n t = (number_of final n ≡ None) ⊎ ((k : ℕ) × (u : Type') × (number_of final n ≡ Some k) × (slice_get locals k ≡ Some u) × Suits t u × IsSoundType w u)
+  abbrev Numbered : StatementEnv → Name → Type' → Type 0
+  Numbered final n t = (variable_number final n ≡ None) ⊎ ((k : ℕ) × (u : Type') × (variable_number final n ≡ Some k) × (slice_get locals k ≡ Some u) × Suits t u × IsSoundType w u)
 
-  abbrev AllNumbered : Env → List Name → List Type' → Type 0
+  abbrev AllNumbered : StatementEnv → List Name → List Type' → Type 0
   AllNumbered final [] [] = Unit {0}
   AllNumbered final (n ∷ ns) (t ∷ ts) = Numbered final n t × AllNumbered final ns ts
   AllNumbered final ns ts = ⊥
 
   -- behind a new name
-  pub new_own : (n : Name) (v : Type') (env : Env) → is_blank n.text ≡ false → own env n ≡ None → own (next n (Some v) env) n ≡ Some (Some (value (local v (length env.types))))
+  pub new_own : (n : Name) (v : Type') (env : StatementEnv) → is_blank n.text ≡ false → own env n ≡ None → own (next n (Some v) env) n ≡ Some (Some (value (local v (length env.types))))
   new_own n v env named none = (
       let is : next n (Some v) env ≡ added n v env = next_new n (Some v) env named none ∙ new_added n v env named in
       let there : own (added n v env) n ≡ Some (Some (value (local v (length env.types)))) = added_own n v env none in
       ap (λ e. own e n) is ∙ there
       )
 
-  pub new_place : (n : Name) (v : Type') (env final : Env) → is_blank n.text ≡ false → own env n ≡ None → Grows (next n (Some v) env) final → Lies w locals final → slice_get locals (length env.types) ≡ Some v
+  pub new_place : (n : Name) (v : Type') (env final : StatementEnv) → is_blank n.text ≡ false → own env n ≡ None → Grows (next n (Some v) env) final → Lies w locals final → slice_get locals (length env.types) ≡ Some v
   new_place n v env final named none g lies =
       let is : (next n (Some v) env).types ≡ env.types ++ v ∷ [] = ap (λ e. e.types) (next_new n (Some v) env named none ∙ new_added n v env named) ∙ added_types n v env in
       let back = lies_before w locals (next n (Some v) env) final g lies in
       at_place env.types v back.0 locals (ap (λ l. l ++ back.0) (sym is) ∙ back.1)
 
-  one_numbered : (n : Name) (v t : Type') (ns : List (Name × Option Type')) (env final : Env) → declare_new ns (next n (Some v) env) ≡ final → NoBlanks final → Lies w locals final → FitsName env n v t → Numbered final n t
+  one_numbered : (n : Name) (v t : Type') (ns : List (Name × Option Type')) (env final : StatementEnv) → declare_new ns (next n (Some v) env) ≡ final → NoBlanks final → Lies w locals final → FitsName env n v t → Numbered final n t
   one_numbered n v t ns env final is blanks lies (inl blank) = inl (numbered final n None (blanks n blank))
   one_numbered n v t ns env final is blanks lies (inr (inl h)) =
       let there : own final n ≡ Some (Some (value (local h.0 h.1))) =
@@ -271,21 +271,21 @@ module _ (w : Table) (locals : List Type') where
       let grows : Grows (next n (Some v) env) final = subst (Grows (next n (Some v) env)) is (new_grows ns (next n (Some v) env)) in
       inr (k, v, numbered final n (Some (Some (value (local v k)))) there, new_place n v env final h.0 h.1 grows lies, h.2, h.3)
 
-  all_numbered : (ns : List Name) (vs ts : List Type') (env final : Env) → declare_new (paired ns (map Some vs)) env ≡ final → NoBlanks final → Lies w locals final → Ready env ns vs ts → AllNumbered final ns ts
+  all_numbered : (ns : List Name) (vs ts : List Type') (env final : StatementEnv) → declare_new (paired_names ns (map Some vs)) env ≡ final → NoBlanks final → Lies w locals final → Ready env ns vs ts → AllNumbered final ns ts
   all_numbered [] [] [] env final is blanks lies r = tt
   all_numbered (n ∷ ns) (v ∷ vs) (t ∷ ts) env final is blanks lies r =
-      (one_numbered n v t (paired ns (map Some vs)) env final is blanks lies r.0, all_numbered ns vs ts (next n (Some v) env) final is blanks lies r.1)
+      (one_numbered n v t (paired_names ns (map Some vs)) env final is blanks lies r.0, all_numbered ns vs ts (next n (Some v) env) final is blanks lies r.1)
   all_numbered ns vs ts env final is blanks lies r = absurd r
 
   -- ---- what that says
 
-  pub all_new : (ns : List Name) (ts : List Type') (final : Env) → AllNumbered final ns ts → AreNew locals (map (number_of final) ns) ts
+  pub all_new : (ns : List Name) (ts : List Type') (final : StatementEnv) → AllNumbered final ns ts → AreNew locals (map (variable_number final) ns) ts
   all_new [] [] final h = tt
   all_new (n ∷ ns) (t ∷ ts) final (inl none, rest) = rw none (all_new ns ts final rest)
   all_new (n ∷ ns) (t ∷ ts) final (inr h, rest) = rw (h.2) ((h.1, h.3, h.4), all_new ns ts final rest)
   all_new ns ts final h = absurd h
 
-  all_types_sound : (ns : List Name) (ts : List Type') (final : Env) (d : List ℕ) → AllNumbered final ns ts → SoundLocals w locals d → SoundLocals w locals (numbers (map (number_of final) ns) ++ d)
+  all_types_sound : (ns : List Name) (ts : List Type') (final : StatementEnv) (d : List ℕ) → AllNumbered final ns ts → SoundLocals w locals d → SoundLocals w locals (known_numbers (map (variable_number final) ns) ++ d)
   all_types_sound [] [] final d h l = l
   all_types_sound (n ∷ ns) (t ∷ ts) final d (inl none, rest) l = rw none (all_types_sound ns ts final d rest l)
   all_types_sound (n ∷ ns) (t ∷ ts) final d (inr h, rest) l = rw (h.2) (λ m u at given. elim (cases_Bool (nat_eq m h.0)) [
@@ -295,7 +295,7 @@ module _ (w : Table) (locals : List Type') where
         let one : u ≡ h.1 = cc in
         subst (IsSoundType w) (sym one) h.5
         )
-    | inr not_so ↦ all_types_sound ns ts final d rest l m u at (let r : has (h.0 ∷ (numbers (map (number_of final) ns) ++ d)) m ≡ has (numbers (map (number_of final) ns) ++ d) m = rw not_so refl in sym r ∙ given)
+    | inr not_so ↦ all_types_sound ns ts final d rest l m u at (let r : has (h.0 ∷ (known_numbers (map (variable_number final) ns) ++ d)) m ≡ has (known_numbers (map (variable_number final) ns) ++ d) m = rw not_so refl in sym r ∙ given)
   ])
   all_types_sound ns ts final d h l = absurd h
 
@@ -305,18 +305,18 @@ module _ (w : Table) (locals : List Type') where
   more_names d [] ms h k = k
   more_names d ((x, o) ∷ ns) ms h k = (h.0, h.1, more_names d ns ms h.2 k)
 
-  abbrev HaveAll : List ℕ → Env → List Name → Type 0
+  abbrev HaveAll : List ℕ → StatementEnv → List Name → Type 0
   HaveAll e final [] = Unit {0}
-  HaveAll e final (n ∷ ns) = ((k : ℕ) → number_of final n ≡ Some k → has e k ≡ true) × HaveAll e final ns
+  HaveAll e final (n ∷ ns) = ((k : ℕ) → variable_number final n ≡ Some k → has e k ≡ true) × HaveAll e final ns
 
-  added_sound : (e : List ℕ) (n : Name) (v : Type') (env : Env) → AllSound w locals e (env.names.inner ++ (n.text, Some (value (local v (length env.types)))) ∷ []) → AllSound w locals e (added n v env).names.inner
+  added_sound : (e : List ℕ) (n : Name) (v : Type') (env : StatementEnv) → AllSound w locals e (env.names.inner ++ (n.text, Some (value (local v (length env.types)))) ∷ []) → AllSound w locals e (added n v env).names.inner
   unfolding added
   added_sound e n v env h = h
 
-  next_sound : (e : List ℕ) (n : Name) (v t : Type') (ns : List (Name × Option Type')) (env final : Env) → declare_new ns (next n (Some v) env) ≡ final → Lies w locals final → ((k : ℕ) → number_of final n ≡ Some k → has e k ≡ true)
+  next_sound : (e : List ℕ) (n : Name) (v t : Type') (ns : List (Name × Option Type')) (env final : StatementEnv) → declare_new ns (next n (Some v) env) ≡ final → Lies w locals final → ((k : ℕ) → variable_number final n ≡ Some k → has e k ≡ true)
       → FitsName env n v t → AllSound w locals e env.names.inner → AllSound w locals e (next n (Some v) env).names.inner
-  next_sound e n v t ns env final is lies given (inl blank) h = subst (λ (x : Env). AllSound w locals e x.names.inner) (sym (next_blank n (Some v) env blank)) h
-  next_sound e n v t ns env final is lies given (inr (inl f)) h = subst (λ (x : Env). AllSound w locals e x.names.inner) (sym (next_own n (Some v) env (Some (value (local f.0 f.1))) f.2)) h
+  next_sound e n v t ns env final is lies given (inl blank) h = subst (λ (x : StatementEnv). AllSound w locals e x.names.inner) (sym (next_blank n (Some v) env blank)) h
+  next_sound e n v t ns env final is lies given (inr (inl f)) h = subst (λ (x : StatementEnv). AllSound w locals e x.names.inner) (sym (next_own n (Some v) env (Some (value (local f.0 f.1))) f.2)) h
   next_sound e n v t ns env final is lies given (inr (inr f)) h =
       let k = length env.types in
       let there : own final n ≡ Some (Some (value (local v k))) =
@@ -325,42 +325,42 @@ module _ (w : Table) (locals : List Type') where
       let has_it = given k (numbered final n (Some (Some (value (local v k)))) there) in
       let whole : AllSound w locals e (env.names.inner ++ (n.text, Some (value (local v k))) ∷ []) =
       more_names e env.names.inner ((n.text, Some (value (local v k))) ∷ []) h (f.0, (new_place n v env final f.0 f.1 grows lies, has_it), tt) in
-      subst (λ (x : Env). AllSound w locals e x.names.inner) (sym (next_new n (Some v) env f.0 f.1 ∙ new_added n v env f.0)) (added_sound e n v env whole)
+      subst (λ (x : StatementEnv). AllSound w locals e x.names.inner) (sym (next_new n (Some v) env f.0 f.1 ∙ new_added n v env f.0)) (added_sound e n v env whole)
 
-  all_next : (e : List ℕ) (ns : List Name) (vs ts : List Type') (env final : Env) → declare_new (paired ns (map Some vs)) env ≡ final → Lies w locals final → HaveAll e final ns → Ready env ns vs ts
+  all_next : (e : List ℕ) (ns : List Name) (vs ts : List Type') (env final : StatementEnv) → declare_new (paired_names ns (map Some vs)) env ≡ final → Lies w locals final → HaveAll e final ns → Ready env ns vs ts
       → AllSound w locals e env.names.inner → AllSound w locals e final.names.inner
-  all_next e [] [] [] env final is lies given r h = subst (λ (x : Env). AllSound w locals e x.names.inner) is h
+  all_next e [] [] [] env final is lies given r h = subst (λ (x : StatementEnv). AllSound w locals e x.names.inner) is h
   all_next e (n ∷ ns) (v ∷ vs) (t ∷ ts) env final is lies given r h =
-      all_next e ns vs ts (next n (Some v) env) final is lies given.1 r.1 (next_sound e n v t (paired ns (map Some vs)) env final is lies given.0 r.0 h)
+      all_next e ns vs ts (next n (Some v) env) final is lies given.1 r.1 (next_sound e n v t (paired_names ns (map Some vs)) env final is lies given.0 r.0 h)
   all_next e ns vs ts env final is lies given r h = absurd r
 
-  have_behind : (e : List ℕ) (final : Env) (ns : List Name) (k : ℕ) → HaveAll e final ns → HaveAll (k ∷ e) final ns
+  have_behind : (e : List ℕ) (final : StatementEnv) (ns : List Name) (k : ℕ) → HaveAll e final ns → HaveAll (k ∷ e) final ns
   have_behind e final [] k h = tt
   have_behind e final (n ∷ ns) k h = (
     λ m at. elim (cases_Bool (nat_eq m k)) [ inl is ↦ rw is refl | inr not_so ↦ rw not_so (h.0 m at) ],
     have_behind e final ns k h.1,
   )
 
-  have_all : (final : Env) (d : List ℕ) (ns : List Name) → HaveAll (numbers (map (number_of final) ns) ++ d) final ns
+  have_all : (final : StatementEnv) (d : List ℕ) (ns : List Name) → HaveAll (known_numbers (map (variable_number final) ns) ++ d) final ns
   have_all final d [] = tt
-  have_all final d (n ∷ ns) = elim (number_of final n) as (λ o. number_of final n ≡ o → HaveAll (numbers (o ∷ map (number_of final) ns) ++ d) final (n ∷ ns)) [
+  have_all final d (n ∷ ns) = elim (variable_number final n) as (λ o. variable_number final n ≡ o → HaveAll (known_numbers (o ∷ map (variable_number final) ns) ++ d) final (n ∷ ns)) [
     | None ↦ λ at. (λ k is. absurd (let r : None ≡ Some k = sym at ∙ is in cc), have_all final d ns)
     | Some m ↦ λ at. (
-      λ k is. (let r : Some m ≡ Some k = sym at ∙ is in let same : m ≡ k = cc in subst (λ j. has (m ∷ (numbers (map (number_of final) ns) ++ d)) j ≡ true) same (first_has m (numbers (map (number_of final) ns) ++ d))),
-      have_behind (numbers (map (number_of final) ns) ++ d) final ns m (have_all final d ns),
+      λ k is. (let r : Some m ≡ Some k = sym at ∙ is in let same : m ≡ k = cc in subst (λ j. has (m ∷ (known_numbers (map (variable_number final) ns) ++ d)) j ≡ true) same (first_has m (known_numbers (map (variable_number final) ns) ++ d))),
+      have_behind (known_numbers (map (variable_number final) ns) ++ d) final ns m (have_all final d ns),
     )
   ] refl
 
   -- new variables: their numbers, and the scope behind
-  pub new_related : (ns : List Name) (vs ts : List Type') (env : Env) (d : List ℕ) → let final = declare_new (paired ns (map Some vs)) env in
-      Related w locals env d → Lies w locals final → Ready env ns vs ts → AreNew locals (map (number_of final) ns) ts × Related w locals final (numbers (map (number_of final) ns) ++ d)
+  pub new_related : (ns : List Name) (vs ts : List Type') (env : StatementEnv) (d : List ℕ) → let final = declare_new (paired_names ns (map Some vs)) env in
+      Related w locals env d → Lies w locals final → Ready env ns vs ts → AreNew locals (map (variable_number final) ns) ts × Related w locals final (known_numbers (map (variable_number final) ns) ++ d)
   new_related ns vs ts env d r lies ready =
-      let final = declare_new (paired ns (map Some vs)) env in
-      let e = numbers (map (number_of final) ns) ++ d in
-      let grows = new_grows (paired ns (map Some vs)) env in
-      let blanks : NoBlanks final = blanks_stay (paired ns (map Some vs)) env (λ n blank. blank_none d env.names.inner n.text r.0 blank) in
+      let final = declare_new (paired_names ns (map Some vs)) env in
+      let e = known_numbers (map (variable_number final) ns) ++ d in
+      let grows = new_grows (paired_names ns (map Some vs)) env in
+      let blanks : NoBlanks final = blanks_stay (paired_names ns (map Some vs)) env (λ n blank. blank_none d env.names.inner n.text r.0 blank) in
       let all = all_numbered ns vs ts env final refl blanks lies ready in
-      let covers : Covers d e = has_behind (numbers (map (number_of final) ns)) d in (
+      let covers : Covers d e = has_behind (known_numbers (map (variable_number final) ns)) d in (
         all_new ns ts final all,
         (
           all_next e ns vs ts env final refl lies (have_all final d ns) ready (all_sound_covers w locals d e env.names.inner covers r.0),

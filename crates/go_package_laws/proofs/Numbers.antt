@@ -8,7 +8,7 @@ use Rattle.std.proofs.lemmas.Slice.Eq.{bytes_eq-Decides}
 use Rattle.std.proofs.lemmas.List.Elements.{All-head, All-tail, All-nil, All-cons}
 use Rattle.go_ast.specs.Trees.{TopLevel, declared, function, File}
 use Rattle.go_typed.specs.Trees.{Function}
-use Rattle.go_objects.specs.Objects.{Object, objects_in, objects_from}
+use Rattle.go_objects.specs.Objects.{DeclaredObject, objects_in, objects_from}
 use Rattle.go_package.specs.Typed.{with_numbers}
 use Rattle.go_package_laws.proofs.DeclaredTexts.{TopsHaveTexts, FilesHaveTexts}
 use Rattle.go_package_laws.proofs.Dots.{no_dot}
@@ -57,10 +57,10 @@ found_numbered x not_init other n (f ∷ fs) = elim (cases_Bool (bytes_eq f.name
 
 -- ---- functions that are declared under a name
 
-abbrev pub NotNumbered : Object → Type 0
+abbrev pub NotNumbered : DeclaredObject → Type 0
 NotNumbered o = is_function o.form ≡ true → starts_with nat_eq o.name.text numbered ≡ false
 
-plain_not_numbered : (os : List Object) → AllIn (Fits Any) os → AllIn NotNumbered os
+plain_not_numbered : (os : List DeclaredObject) → AllIn (Fits Any) os → AllIn NotNumbered os
 plain_not_numbered [] h = tt
 plain_not_numbered (o ∷ os) h = ((λ is. absurd (let no : true ≡ false = sym is ∙ (h.0).1 in cc (no))), plain_not_numbered os h.1)
 

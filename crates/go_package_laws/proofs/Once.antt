@@ -11,9 +11,9 @@ use Rattle.go_typed.specs.Trees.{Symbol, global}
 use Rattle.go_meaning.specs.Values.{zero_of}
 use Rattle.go_symbol.specs.Symbols.{same_symbol}
 use Rattle.go_meaning.specs.Meaning.{Stored}
-use Rattle.go_meaning.specs.Programs.{symbol_of}
+use Rattle.go_meaning.specs.Programs.{package_symbol}
 use Rattle.go_expr.specs.Known.{Declared, value, type', function, println, length', capacity', make', append', panic', Names}
-use Rattle.go_objects.specs.Objects.{Object, firsts}
+use Rattle.go_objects.specs.Objects.{DeclaredObject, firsts}
 use Rattle.go_package.specs.Typed.{type_in, types_in, declared_at, variable_in, variables_in}
 use Rattle.go_package_laws.proofs.Tables.{pair_first, pair_second}
 
@@ -24,8 +24,8 @@ abbrev pub Once : List (List ℕ) → Type 0
 Once [] = Unit {0}
 Once (x ∷ xs) = (list_any (bytes_eq x) xs ≡ false) × Once xs
 
-abbrev pub texts : List Object → List (List ℕ)
-texts os = map (λ (o : Object). o.name.text) os
+abbrev pub texts : List DeclaredObject → List (List ℕ)
+texts os = map (λ (o : DeclaredObject). o.name.text) os
 
 any_behind : (x : List ℕ) (xs ys : List (List ℕ)) → list_any (bytes_eq x) xs ≡ true → list_any (bytes_eq x) (xs ++ ys) ≡ true
 any_behind x [] ys h = absurd cc
@@ -35,7 +35,7 @@ any_last : (x : List ℕ) (xs : List (List ℕ)) → list_any (bytes_eq x) (xs +
 any_last x [] = (let is = itself x in rw is refl)
 any_last x (y ∷ xs) = elim (cases_Bool (bytes_eq x y)) [ inl is ↦ rw is refl | inr not_so ↦ rw not_so (any_last x xs) ]
 
-firsts_new : (names : List (List ℕ)) (os : List Object) (x : List ℕ) → list_any (bytes_eq x) names ≡ true → list_any (bytes_eq x) (texts (firsts names os)) ≡ false
+firsts_new : (names : List (List ℕ)) (os : List DeclaredObject) (x : List ℕ) → list_any (bytes_eq x) names ≡ true → list_any (bytes_eq x) (texts (firsts names os)) ≡ false
 firsts_new names [] x h = refl
 firsts_new names (o ∷ os) x h = elim (cases_Bool (bytes_eq o.name.text (codes "_") || list_any (bytes_eq o.name.text) names)) [
   | inl out ↦ rw out (firsts_new names os x h)
@@ -51,7 +51,7 @@ firsts_new names (o ∷ os) x h = elim (cases_Bool (bytes_eq o.name.text (codes 
   ]
 ]
 
-pub firsts_once : (names : List (List ℕ)) (os : List Object) → Once (texts (firsts names os))
+pub firsts_once : (names : List (List ℕ)) (os : List DeclaredObject) → Once (texts (firsts names os))
 firsts_once names [] = tt
 firsts_once names (o ∷ os) = elim (cases_Bool (bytes_eq o.name.text (codes "_") || list_any (bytes_eq o.name.text) names)) [
   | inl out ↦ rw out (firsts_once names os)
@@ -126,7 +126,7 @@ type_found ((y, u) ∷ known) once (suc k) x t at =
 -- ---- variables
 
 abbrev pub stored : typed.Package → typed.Variable → Stored
-stored p v = record { symbol = symbol_of p v.name; of = v.of; value = zero_of v.of }
+stored p v = record { symbol = package_symbol p v.name; of = v.of; value = zero_of v.of }
 
 abbrev is_stored : Symbol → Stored → Bool
 is_stored s v = same_symbol s v.symbol
@@ -134,8 +134,8 @@ is_stored s v = same_symbol s v.symbol
 abbrev type_found_at : Symbol → List Stored → Option Type'
 type_found_at s vs = option_map (λ v. v.of) (find (is_stored s) vs)
 
-skip_variable : (p : typed.Package) (files : List (List ℕ)) (x : List ℕ) (o : Object) (u : Option Declared) (vs : List typed.Variable) (rest : List Stored) → bytes_eq x o.name.text ≡ false
-    → type_found_at (symbol_of p x) (map (stored p) (cons_option (variable_in files o u) vs) ++ rest) ≡ type_found_at (symbol_of p x) (map (stored p) vs ++ rest)
+skip_variable : (p : typed.Package) (files : List (List ℕ)) (x : List ℕ) (o : DeclaredObject) (u : Option Declared) (vs : List typed.Variable) (rest : List Stored) → bytes_eq x o.name.text ≡ false
+    → type_found_at (package_symbol p x) (map (stored p) (cons_option (variable_in files o u) vs) ++ rest) ≡ type_found_at (package_symbol p x) (map (stored p) vs ++ rest)
 skip_variable p files x o (Some (value (global t s))) vs rest other = (let same = itself p.path in rw (same, other) refl)
 skip_variable p files x o None vs rest other = refl
 skip_variable p files x o (Some (value e)) vs rest other = refl
@@ -148,16 +148,16 @@ skip_variable p files x o (Some make') vs rest other = refl
 skip_variable p files x o (Some append') vs rest other = refl
 skip_variable p files x o (Some panic') vs rest other = refl
 
-pub variable_found : (p : typed.Package) (files : List (List ℕ)) (known : Names) (os : List Object) (rest : List Stored) → Once (texts os) → (k : ℕ) (o : Object) (t : Type') (s : Symbol)
-    → slice_get os k ≡ Some o → declared_at known o.name.text ≡ Some (value (global t s)) → type_found_at (symbol_of p o.name.text) (map (stored p) (variables_in files known os) ++ rest) ≡ Some t
+pub variable_found : (p : typed.Package) (files : List (List ℕ)) (known : Names) (os : List DeclaredObject) (rest : List Stored) → Once (texts os) → (k : ℕ) (o : DeclaredObject) (t : Type') (s : Symbol)
+    → slice_get os k ≡ Some o → declared_at known o.name.text ≡ Some (value (global t s)) → type_found_at (package_symbol p o.name.text) (map (stored p) (variables_in files known os) ++ rest) ≡ Some t
 variable_found p files known [] rest once k o t s at is = absurd cc
 variable_found p files known (y ∷ os) rest once zero o t s at is =
     let same : y ≡ o = cc in
     let path = itself p.path in
     let name = itself o.name.text in
-    ap (λ (z : Object). type_found_at (symbol_of p o.name.text) (map (stored p) (cons_option (variable_in files z (declared_at known z.name.text)) (variables_in files known os)) ++ rest)) same
-    ∙ ap (λ (u : Option Declared). type_found_at (symbol_of p o.name.text) (map (stored p) (cons_option (variable_in files o u) (variables_in files known os)) ++ rest)) is
+    ap (λ (z : DeclaredObject). type_found_at (package_symbol p o.name.text) (map (stored p) (cons_option (variable_in files z (declared_at known z.name.text)) (variables_in files known os)) ++ rest)) same
+    ∙ ap (λ (u : Option Declared). type_found_at (package_symbol p o.name.text) (map (stored p) (cons_option (variable_in files o u) (variables_in files known os)) ++ rest)) is
     ∙ rw (path, name) refl
 variable_found p files known (y ∷ os) rest once (suc k) o t s at is =
-    let other = another y.name.text (texts os) once.0 k o.name.text (mapped_get (λ (o : Object). o.name.text) os k o at) in
+    let other = another y.name.text (texts os) once.0 k o.name.text (mapped_get (λ (o : DeclaredObject). o.name.text) os k o at) in
     skip_variable p files o.name.text y (declared_at known y.name.text) (variables_in files known os) rest other ∙ variable_found p files known os rest once.1 k o t s at is

@@ -12,10 +12,10 @@ use Rattle.go_types.specs.Types.{Type', basic}
 use Rattle.go_types.specs.Relations.{underlying, convertible}
 use Rattle.go_typed.specs.Trees as typed
 use Rattle.go_typed.specs.Trees.{Expr, constant, expr_type}
-use Rattle.go_meaning_laws.specs.WellTyped.{Setting, is_bool, is_integer, is_string, is_unary, Converts, IsExpr, IsCondition}
+use Rattle.go_meaning_laws.specs.WellTyped.{Setting, is_bool_type, is_integer_type, is_string_type, is_unary, Converts, IsExpr, IsCondition}
 use Rattle.go_expr.specs.Known.{Verdict, Fine, Breaks, Passed}
 use Rattle.go_expr.specs.Rules as rules
-use Rattle.go_expr.specs.Rules.{given, constant_in, int_kind, in_kind, lies_in, default_type, defaulted, condition, converted, operator_of, is_operand, unary_of}
+use Rattle.go_expr.specs.Rules.{constant_or_fault, constant_in, int_kind, in_kind, lies_in, default_type, defaulted, condition, converted, operator_of, is_operand, unary_verdict}
 use Rattle.go_package_laws.proofs.Soundness.{Table, IsSoundType, HasSoundWay, is_operation, IsSoundValue}
 use Rattle.go_package_laws.proofs.Types.{untyped_bool, convertible_same, both_integers, untyped_converts, fits_truth}
 use Rattle.go_package_laws.proofs.Constants.{IsConstantOf, Given, one_operand, same_constant, integer_constant, fit_constant}
@@ -25,13 +25,13 @@ use Rattle.go_package_laws.proofs.Defaults.{sound_integer, sound_string, sound_b
 module _ (w : Table) (g : Setting) (d : List ℕ) where
   -- ---- conditions
 
-  default_is_bool : (t : Type') → IsOperandType w t → rules.is_bool t ≡ true → is_bool (underlying (default_type t)) ≡ true
-  default_is_bool t (inl h) e = subst (λ u. is_bool (underlying u) ≡ true) (sym (sound_default w g d t h)) (sound_bool t e)
+  default_is_bool : (t : Type') → IsOperandType w t → rules.is_bool t ≡ true → is_bool_type (underlying (default_type t)) ≡ true
+  default_is_bool t (inl h) e = subst (λ u. is_bool_type (underlying u) ≡ true) (sym (sound_default w g d t h)) (sound_bool t e)
   default_is_bool t (inr h) e =
-      subst (λ u. is_bool (underlying (default_type u)) ≡ true) (sym h.1) (sound_bool (default_type (basic (basics.Untyped h.0))) (default_bool h.0 (subst (λ u. rules.is_bool u ≡ true) h.1 e)))
+      subst (λ u. is_bool_type (underlying (default_type u)) ≡ true) (sym h.1) (sound_bool (default_type (basic (basics.Untyped h.0))) (default_bool h.0 (subst (λ u. rules.is_bool u ≡ true) h.1 e)))
 
-  as_condition : (t : Type') (v : Verdict Expr) → is_bool (underlying t) ≡ true → Gives (GoodAs w g d t) v → Gives (IsCondition g d) v
-  as_condition t (Fine x) h k = (k.0, subst (λ u. is_bool (underlying u) ≡ true) (sym k.1) h)
+  as_condition : (t : Type') (v : Verdict Expr) → is_bool_type (underlying t) ≡ true → Gives (GoodAs w g d t) v → Gives (IsCondition g d) v
+  as_condition t (Fine x) h k = (k.0, subst (λ u. is_bool_type (underlying u) ≡ true) (sym k.1) h)
   as_condition t (Breaks kind) h k = tt
   as_condition t Passed h k = tt
 
@@ -88,7 +88,7 @@ module _ (w : Table) (g : Setting) (d : List ℕ) where
 
   -- ---- constants that rules give
 
-  pub given_sound : (t : Type') (r : Result Const ConstError) → IsOperandType w t → Given (IsConstantOf t) r → Gives (IsSoundValue w g d) (given t r)
+  pub given_sound : (t : Type') (r : Result Const ConstError) → IsOperandType w t → Given (IsConstantOf t) r → Gives (IsSoundValue w g d) (constant_or_fault t r)
   given_sound t (Ok c) h k = constant_value w g d t c h k
   given_sound t (Err errors.Mismatch) h k = tt
   given_sound t (Err errors.Range) h k = tt
@@ -118,11 +118,11 @@ module _ (w : Table) (g : Setting) (d : List ℕ) where
   no_string : (t : Type') → t ≡ untyped_bool → rules.is_string t ≡ true → ⊥
   no_string t at e = true≢false (sym (subst (λ u. rules.is_string u ≡ true) at e))
 
-  pub integer_value : (t : Type') → IsValueType t → rules.is_integer t ≡ true → is_integer (underlying t) ≡ true
+  pub integer_value : (t : Type') → IsValueType t → rules.is_integer t ≡ true → is_integer_type (underlying t) ≡ true
   integer_value t (inl h) e = sound_integer w t h e
   integer_value t (inr h) e = absurd (no_integer t h e)
 
-  pub string_value : (t : Type') → IsValueType t → rules.is_string t ≡ true → is_string (underlying t) ≡ true
+  pub string_value : (t : Type') → IsValueType t → rules.is_string t ≡ true → is_string_type (underlying t) ≡ true
   string_value t (inl h) e = sound_string w t h e
   string_value t (inr h) e = absurd (no_string t h e)
 
@@ -134,7 +134,7 @@ module _ (w : Table) (g : Setting) (d : List ℕ) where
 
   abbrev unary_with : signs.UnaryOperator → Expr → Option Const → Verdict Expr
   unary_with op e o = elim o [
-    | Some c ↦ given (expr_type e) (constants.unary (operator_of op) (int_kind (expr_type e)) c)
+    | Some c ↦ constant_or_fault (expr_type e) (constants.unary (operator_of op) (int_kind (expr_type e)) c)
     | None ↦ Fine (typed.unary (expr_type e) (operator_of op) e)
   ]
 
@@ -150,9 +150,9 @@ module _ (w : Table) (g : Setting) (d : List ℕ) where
       let one = other_value e h at in
       value_made (typed.unary (expr_type e) (operator_of op) e) (one.0, refl, unary_defined op (expr_type e) one.1 is) one.1 refl tt
 
-  unary_if : (op : signs.UnaryOperator) (e : Expr) → IsSoundValue w g d e → (b : Bool) → is_operand op (expr_type e) ≡ b → Gives (IsSoundValue w g d) (unary_of op e)
+  unary_if : (op : signs.UnaryOperator) (e : Expr) → IsSoundValue w g d e → (b : Bool) → is_operand op (expr_type e) ≡ b → Gives (IsSoundValue w g d) (unary_verdict op e)
   unary_if op e h false is = rw is tt
   unary_if op e h true is = rw is (unary_by op e h is (constant_in e) refl)
 
-  pub unary_gives : (op : signs.UnaryOperator) (e : Expr) → IsSoundValue w g d e → Gives (IsSoundValue w g d) (unary_of op e)
+  pub unary_gives : (op : signs.UnaryOperator) (e : Expr) → IsSoundValue w g d e → Gives (IsSoundValue w g d) (unary_verdict op e)
   unary_gives op e h = unary_if op e h (is_operand op (expr_type e)) refl

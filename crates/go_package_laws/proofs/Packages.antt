@@ -8,7 +8,7 @@ use Rattle.std.proofs.lemmas.Slice.Eq.{bytes_eq-Decides}
 use Rattle.std.proofs.lemmas.List.Elements.{All-head, All-tail, All-nil, All-cons, All-append, All-map}
 use Rattle.go_text.specs.declared.edition.Edition.{Edition}
 use Rattle.go_text.specs.declared.place.Place.{Place}
-use Rattle.go_ast.specs.Trees.{ImportSpec, TopLevel, declared, function, Function, File}
+use Rattle.go_ast.specs.Trees.{ImportSpec, TopLevel, declared, function, FunctionDecl, File}
 use Rattle.go_const.specs.declared.constant.Const.{Const}
 use Rattle.go_types.specs.Types.{Type'}
 use Rattle.go_types.specs.Names.{is_exported}
@@ -17,22 +17,22 @@ use Rattle.go_typed.specs.Trees.{Symbol, global}
 use Rattle.go_init.specs.Variables.{variable_order}
 use Rattle.go_symbol.specs.Symbols.{same_symbol}
 use Rattle.go_meaning.specs.Meaning.{Stored}
-use Rattle.go_meaning.specs.Programs.{symbol_of, package_functions, first_variables, package_steps, HasMain}
+use Rattle.go_meaning.specs.Programs.{package_symbol, package_functions, first_variables, package_steps, HasMain}
 use Rattle.go_meaning.specs.Programs as meaning
 use Rattle.go_expr.specs.Known.{Declared, value, type', function as known_function, println, length', capacity', make', append', panic', Names, declared as known_declared, Fine}
 use Rattle.go_export.specs.Exports as exports
-use Rattle.go_export.specs.Exports.{Export, Exports, named_constant, named_type, named_variable, named_function, exports_of, look_up as look_up_export}
+use Rattle.go_export.specs.Exports.{Export, Exports, named_constant, exported_type, named_variable, named_function, exports_of, look_up_export as look_up_export}
 use Rattle.go_export.proofs.Found.{found}
-use Rattle.go_check.specs.Names.{declared_as as exported_as, names_by}
+use Rattle.go_check.specs.Names.{export_declares as exported_as, names_by}
 use Rattle.go_stmt.specs.Functions.{function_at}
-use Rattle.go_objects.specs.Objects.{Form, Object, firsts, objects_from, objects_of}
+use Rattle.go_objects.specs.Objects.{Form, DeclaredObject, firsts, objects_from, objects_of}
 use Rattle.go_objects.specs.Table.{imports_at, iota_in, scope_at, form_verdict, object_verdict}
 use Rattle.go_package.specs.Faults.{Facts, own_faults, context_at, top_faults, files_faults}
 use Rattle.go_package.specs.Imports.{Importable, package_at, import_name, named_import, imports_in, imports_of}
 use Rattle.go_package.specs.Packages.{main_faults}
 use Rattle.go_scope.specs.Scopes.{is_blank}
 use Rattle.go_package.specs.Typed.{variable_in, variables_in, constants_in, types_in, declared_at, top_functions, of_files, package_name, typed_package}
-use Rattle.go_meaning_laws.specs.WellTyped.{Signature, Setting, IsFunction, IsStart, signature_at, variable_at, outside}
+use Rattle.go_meaning_laws.specs.WellTyped.{Signature, Setting, IsWellTypedFunction, IsWellTypedStart, signature_at, variable_at, package_setting}
 use Rattle.go_package_laws.proofs.Soundness.{Table, IsSoundType, AreSoundTypes, IsSoundDeclared, AreSoundNames}
 use Rattle.go_package_laws.proofs.SoundNames.{IsSoundScope}
 use Rattle.go_package_laws.proofs.BodyTexts.{FunctionHasTexts}
@@ -172,7 +172,7 @@ constant_entry ((y, Some (value (typed.constant u c))) ∷ known) x e h = elim (
 constant_entry ((y, v) ∷ known) x e h = (let rest = constant_entry known x e h in (rest.0, rest.1, rest.2, behind known (y, v) x (value (typed.constant rest.0 rest.1)) rest.3))
 
 abbrev types_by : Names → Exports
-types_by known = map named_type (types_in known)
+types_by known = map exported_type (types_in known)
 
 abbrev TypeEntry : Names → List ℕ → Export → Type 0
 TypeEntry known x e = (u : Type') × (e ≡ exports.type' u) × Entry known x (type' u)
@@ -189,7 +189,7 @@ type_entry ((y, Some (type' u)) ∷ known) x e h = elim (cases_Bool (bytes_eq x 
 type_entry ((y, v) ∷ known) x e h = (let rest = type_entry known x e h in (rest.0, rest.1, behind known (y, v) x (type' rest.0) rest.2))
 
 variable_entry : (p : typed.Package) (vs : List typed.Variable) (x : List ℕ) (e : Export) → look_up_export x (map named_variable vs) ≡ Some e
-    → (u : Type') × (e ≡ exports.variable u) × (option_map (λ (v : Stored). v.of) (find (λ (v : Stored). same_symbol (symbol_of p x) v.symbol) (map (stored p) vs)) ≡ Some u)
+    → (u : Type') × (e ≡ exports.variable u) × (option_map (λ (v : Stored). v.of) (find (λ (v : Stored). same_symbol (package_symbol p x) v.symbol) (map (stored p) vs)) ≡ Some u)
 variable_entry p [] x e h = absurd cc
 variable_entry p (v ∷ vs) x e h =
     let own = itself p.path in
@@ -207,8 +207,8 @@ function_entry (f ∷ fs) x e h = elim (cases_Bool (bytes_eq x f.name)) [
 
 -- ---- functions of files
 
-module _ (t : Facts) (P : typed.Function → Type 0) (one : (file : ℕ) (f : Function) → FunctionHasTexts f → (function_at (context_at t file) f).faults ≡ [] → (g : typed.Function) → (function_at (context_at t file) f).known ≡ Some g → P g) where
-  listed_are : (file : ℕ) (f : Function) → FunctionHasTexts f → (function_at (context_at t file) f).faults ≡ [] → (o : Option typed.Function) → (function_at (context_at t file) f).known ≡ o
+module _ (t : Facts) (P : typed.Function → Type 0) (one : (file : ℕ) (f : FunctionDecl) → FunctionHasTexts f → (function_at (context_at t file) f).faults ≡ [] → (g : typed.Function) → (function_at (context_at t file) f).known ≡ Some g → P g) where
+  listed_are : (file : ℕ) (f : FunctionDecl) → FunctionHasTexts f → (function_at (context_at t file) f).faults ≡ [] → (o : Option typed.Function) → (function_at (context_at t file) f).known ≡ o
       → All P (elim o [ None ↦ [] | Some g ↦ if is_blank f.name.text then [] else g ∷ [] ])
   listed_are file f texts none None is = All-nil P
   listed_are file f texts none (Some g) is = elim (cases_Bool (bytes_eq f.name.text (codes "_"))) [
@@ -244,8 +244,8 @@ module _ (packages : List typed.Package) (w : Table) where
 
   -- what the program has of a package's names is what the package has
   abbrev pub HasOwn : typed.Package → Type 0
-  HasOwn p = ((x : List ℕ) → signature_at packages (symbol_of p x) ≡ signature_at (p ∷ []) (symbol_of p x))
-      × ((x : List ℕ) → variable_at packages (symbol_of p x) ≡ variable_at (p ∷ []) (symbol_of p x)) × HasTypes w p × (w.plain p.path ≡ true)
+  HasOwn p = ((x : List ℕ) → signature_at packages (package_symbol p x) ≡ signature_at (p ∷ []) (package_symbol p x))
+      × ((x : List ℕ) → variable_at packages (package_symbol p x) ≡ variable_at (p ∷ []) (package_symbol p x)) × HasTypes w p × (w.plain p.path ≡ true)
 
   -- what it exports is sound
   abbrev pub IsSoundFor : typed.Package → Type 0
@@ -258,8 +258,8 @@ module _ (packages : List typed.Package) (w : Table) (edition : Edition) (t : Fa
   module _ (own : HasOwn packages w p) (ps : List Importable) (imported : t.package.imports ≡ imports_of ps files) (sound : (g : Setting) (d : List ℕ) → IsWithin packages w g → AllExport w g d ps) where
     inside_it : (g : Setting) → IsWithin packages w g → IsIn p g
     inside_it g within = (
-      λ x. ap (λ (v : Symbol → Option Signature). v (symbol_of p x)) within.0 ∙ own.0 x,
-      λ x. ap (λ (v : Symbol → Option Type'). v (symbol_of p x)) within.1 ∙ own.1 x,
+      λ x. ap (λ (v : Symbol → Option Signature). v (package_symbol p x)) within.0 ∙ own.0 x,
+      λ x. ap (λ (v : Symbol → Option Type'). v (package_symbol p x)) within.1 ∙ own.1 x,
     )
 
     import_sound : (g : Setting) (d : List ℕ) → IsWithin packages w g → (file : ℕ) → AllImports w g d (imports_at t.package file)
@@ -290,7 +290,7 @@ module _ (packages : List typed.Package) (w : Table) (edition : Edition) (t : Fa
         let own_it = own_sound expected w here [] t.package t.known h.told own.3 (import_sound here [] (refl, refl)) (linked edition t names files h w own.2 own.3 here (inside_it here (refl, refl))) entry.0 entry.1 (value (global u s)) entry.2 in
         own_it.1
 
-    one_variable : (o : Object) (e : Option Declared) → declared_at t.known o.name.text ≡ e → (vs : List typed.Variable) → All SoundVariable vs → All SoundVariable (cons_option (variable_in names o e) vs)
+    one_variable : (o : DeclaredObject) (e : Option Declared) → declared_at t.known o.name.text ≡ e → (vs : List typed.Variable) → All SoundVariable vs → All SoundVariable (cons_option (variable_in names o e) vs)
     one_variable o (Some (value (global u s))) is vs all =
         let v : typed.Variable = record { name = o.name.text; of = u; file = unwrap_or (slice_get names o.file) []; place = o.name.place } in
         All-cons SoundVariable v vs (global_sound o.name.text u s is) all
@@ -305,7 +305,7 @@ module _ (packages : List typed.Package) (w : Table) (edition : Edition) (t : Fa
     one_variable o (Some append') is vs all = all
     one_variable o (Some panic') is vs all = all
 
-    all_sound : (os : List Object) → All SoundVariable (variables_in names t.known os)
+    all_sound : (os : List DeclaredObject) → All SoundVariable (variables_in names t.known os)
     all_sound [] = All-nil SoundVariable
     all_sound (o ∷ os) = one_variable o (declared_at t.known o.name.text) refl (variables_in names t.known os) (all_sound os)
 
@@ -332,10 +332,10 @@ module _ (packages : List typed.Package) (w : Table) (edition : Edition) (t : Fa
     variable_exported g d within x e at =
         let there = variable_entry p p.variables x e at in
         let u = there.0 in
-        let test = λ (v : Stored). same_symbol (symbol_of p x) v.symbol in
+        let test = λ (v : Stored). same_symbol (package_symbol p x) v.symbol in
         let found = mapped_is (λ (v : Stored). v.of) (find test (first_variables p)) u there.2 in
         let type : IsSoundType w u = subst (IsSoundType w) (sym found.2) (found_of SoundStored test (first_variables p) found.0 stored_sound found.1) in
-        let alone : variable_at (p ∷ []) (symbol_of p x) ≡ Some u = ap (λ (vs : List Stored). option_map (λ (v : Stored). v.of) (find test vs)) (append-nil (first_variables p)) ∙ there.2 in
+        let alone : variable_at (p ∷ []) (package_symbol p x) ≡ Some u = ap (λ (vs : List Stored). option_map (λ (v : Stored). v.of) (find test vs)) (append-nil (first_variables p)) ∙ there.2 in
         subst (λ (e : Export). IsSoundDeclared w g d (exported_as p.path x e)) (sym there.1) (inr (inl ((inside_it g within).1 x ∙ alone, type, tt)))
 
     function_exported : (g : Setting) (d : List ℕ) → IsWithin packages w g → (x : List ℕ) (e : Export) → look_up_export x (map named_function p.functions) ≡ Some e → IsSoundDeclared w g d (exported_as p.path x e)
@@ -343,7 +343,7 @@ module _ (packages : List typed.Package) (w : Table) (edition : Edition) (t : Fa
         let there = function_entry p.functions x e at in
         let f = there.0 in
         let types = found_of SoundSigned (by_name x) p.functions f signatures_sound there.1 in
-        let alone : signature_at (p ∷ []) (symbol_of p x) ≡ Some (record { parameters = f.parameters; results = f.results }) =
+        let alone : signature_at (p ∷ []) (package_symbol p x) ≡ Some (record { parameters = f.parameters; results = f.results }) =
         ap (λ (r : Option typed.Function). option_map (λ (f : typed.Function). record { parameters = f.parameters; results = f.results }) r) (function_here edition t names files h x ∙ there.1) in
         subst (λ (e : Export). IsSoundDeclared w g d (exported_as p.path x e)) (sym there.2) ((inside_it g within).0 x ∙ alone, types.0, types.1)
 
@@ -375,12 +375,12 @@ module _ (packages : List typed.Package) (w : Table) (edition : Edition) (t : Fa
     -- ---- functions
 
     abbrev Sound : typed.Function → Type 0
-    Sound g = IsFunction packages g
+    Sound g = IsWellTypedFunction packages g
 
-    pub functions_sound : SoundPackageVariables expected w packages → All (λ (d : meaning.Declared). IsFunction packages d.function) (package_functions p)
+    pub functions_sound : SoundPackageVariables expected w packages → All (λ (d : meaning.DeclaredFunction). IsWellTypedFunction packages d.function) (package_functions p)
     functions_sound variables =
-        let P = λ (d : meaning.Declared). IsFunction packages d.function in
-        All-map P (λ (f : typed.Function). record { symbol = symbol_of p f.name; function = f }) p.functions
+        let P = λ (d : meaning.DeclaredFunction). IsWellTypedFunction packages d.function in
+        All-map P (λ (f : typed.Function). record { symbol = package_symbol p f.name; function = f }) p.functions
         (numbered_all Sound (λ f x sound. record { body = sound.body; ended = sound.ended }) 1 (of_files (top_functions t) 0 files)
         (files_are t Sound (λ file f texts none g is. (function_sound w packages (context_at t file) f refl refl (context_sound file) variables texts none g is).0) 0 files h.texts h.none))
 
@@ -398,25 +398,25 @@ module _ (packages : List typed.Package) (w : Table) (edition : Edition) (t : Fa
     unsigned : (r : Option Signature) (us rs : List Type') → r ≡ Some (signed_by us rs) → us ≡ [] → rs ≡ [] → r ≡ Some (signed_by [] [])
     unsigned r us rs is parameters results = is ∙ ap (λ l. Some (signed_by l rs)) parameters ∙ ap (λ l. Some (signed_by [] l)) results
 
-    main_signature : (f : File) (fs : List File) → files ≡ f ∷ fs → bytes_eq f.package.text (codes "main") ≡ true → main_faults t files ≡ [] → IsStart (p ∷ []) (meaning.calls (symbol_of p main))
+    main_signature : (f : File) (fs : List File) → files ≡ f ∷ fs → bytes_eq f.package.text (codes "main") ≡ true → main_faults t files ≡ [] → IsWellTypedStart (p ∷ []) (meaning.calls (package_symbol p main))
     main_signature f fs are is none =
         let found = main_object t f fs is (subst (λ (l : List File). main_faults t l ≡ []) are none) (subst FilesHaveTexts are h.texts) in
         let k = found.0 in
         let o = found.1 in
         let objects : t.package.objects ≡ objects_of (f ∷ fs) = h.objects ∙ ap objects_of are in
-        let at : slice_get (firsts [] (objects_from 0 (f ∷ fs))) k ≡ Some o = ap (λ (os : List Object). slice_get os k) (sym objects) ∙ found.2 in
+        let at : slice_get (firsts [] (objects_from 0 (f ∷ fs))) k ≡ Some o = ap (λ (os : List DeclaredObject). slice_get os k) (sym objects) ∙ found.2 in
         let name : main ≡ o.name.text = (bytes_eq-Decides main o.name.text).0 found.3 in
         let form = all_at MainOnly (firsts [] (objects_from 0 (f ∷ fs))) k o (all_firsts MainOnly [] (objects_from 0 (f ∷ fs)) found.4) at ((bytes_eq-Decides o.name.text main).1 (sym name)) in
-        let s = symbol_of p o.name.text in
+        let s = package_symbol p o.name.text in
         let verdict : object_verdict t.package t.known o ≡ Fine (known_declared (known_function s [] [])) =
         subst (λ (form : Form). form_verdict (scope_at t.package t.known o.file (iota_in form)) s form ≡ Fine (known_declared (known_function s [] []))) (sym form) refl in
         let of = function_linked edition t names files h k o (known_function s [] []) found.2 (ap is_function form) verdict in
         let parameters : of.0 ≡ [] = no_parameters s of.0 of.1 of.2 in
         let results : of.1 ≡ [] = no_results s of.0 of.1 of.2 in
-        subst (λ (x : List ℕ). signature_at (p ∷ []) (symbol_of p x) ≡ Some (signed_by [] [])) (sym name) (unsigned (signature_at (p ∷ []) s) of.0 of.1 of.3 parameters results)
+        subst (λ (x : List ℕ). signature_at (p ∷ []) (package_symbol p x) ≡ Some (signed_by [] [])) (sym name) (unsigned (signature_at (p ∷ []) s) of.0 of.1 of.3 parameters results)
 
     -- functions init
-    init_called : main_faults t files ≡ [] → (k : ℕ) (f : typed.Function) → slice_get p.functions k ≡ Some f → meaning.is_init f ≡ true → IsStart packages (meaning.calls (symbol_of p f.name))
+    init_called : main_faults t files ≡ [] → (k : ℕ) (f : typed.Function) → slice_get p.functions k ≡ Some f → meaning.is_init f ≡ true → IsWellTypedStart packages (meaning.calls (package_symbol p f.name))
     init_called none k f at is =
         let here = (bytes_eq-Decides f.name f.name).1 refl in
         let found = found_some (by_name f.name) EmptyInit p.functions (inits_empty t files h.named none) k f at here in
@@ -427,26 +427,26 @@ module _ (packages : List typed.Package) (w : Table) (edition : Edition) (t : Fa
         ∙ ap (λ (r : Option typed.Function). option_map (λ (f : typed.Function). signed_by f.parameters f.results) r) (function_here edition t names files h f.name ∙ found.1)
         ∙ unsigned (Some (signed_by g.parameters g.results)) g.parameters g.results refl empty.0 empty.1
 
-    pub inits_start : main_faults t files ≡ [] → All (IsStart packages) (map (λ (f : typed.Function). meaning.calls (symbol_of p f.name)) (filter meaning.is_init p.functions))
+    pub inits_start : main_faults t files ≡ [] → All (IsWellTypedStart packages) (map (λ (f : typed.Function). meaning.calls (package_symbol p f.name)) (filter meaning.is_init p.functions))
     inits_start none =
-        All-map (IsStart packages) (λ (f : typed.Function). meaning.calls (symbol_of p f.name)) (filter meaning.is_init p.functions)
-        (filtered meaning.is_init (λ (f : typed.Function). IsStart packages (meaning.calls (symbol_of p f.name))) p.functions (init_called none))
+        All-map (IsWellTypedStart packages) (λ (f : typed.Function). meaning.calls (package_symbol p f.name)) (filter meaning.is_init p.functions)
+        (filtered meaning.is_init (λ (f : typed.Function). IsWellTypedStart packages (meaning.calls (package_symbol p f.name))) p.functions (init_called none))
 
     -- initial values
-    variable_stored : (k : ℕ) (o : Object) (u : Type') (s : Symbol) → slice_get t.package.objects k ≡ Some o → slice_get t.known k ≡ Some (o.name.text, Some (value (global u s))) → variable_at packages (symbol_of p o.name.text) ≡ Some u
+    variable_stored : (k : ℕ) (o : DeclaredObject) (u : Type') (s : Symbol) → slice_get t.package.objects k ≡ Some o → slice_get t.known k ≡ Some (o.name.text, Some (value (global u s))) → variable_at packages (package_symbol p o.name.text) ≡ Some u
     variable_stored k o u s there at = own.1 o.name.text ∙ variable_linked edition t names files h k o u s there at
 
     -- what it starts with
-    pub steps_start : main_faults t files ≡ [] → All (IsStart packages) (package_steps p)
+    pub steps_start : main_faults t files ≡ [] → All (IsWellTypedStart packages) (package_steps p)
     steps_start none =
-        All-append (IsStart packages) (map (meaning.sets p.path) (variable_order p).0) (map (λ (f : typed.Function). meaning.calls (symbol_of p f.name)) (filter meaning.is_init p.functions))
-        (initial_start packages w edition t names files h (λ file. outside_sound (outside packages) [] (refl, refl) file None) variable_stored) (inits_start none)
+        All-append (IsWellTypedStart packages) (map (meaning.sets p.path) (variable_order p).0) (map (λ (f : typed.Function). meaning.calls (package_symbol p f.name)) (filter meaning.is_init p.functions))
+        (initial_start packages w edition t names files h (λ file. outside_sound (package_setting packages) [] (refl, refl) file None) variable_stored) (inits_start none)
 
-    main_alone : (fs : List File) → files ≡ fs → p.name ≡ codes "main" → main_faults t files ≡ [] → IsStart (p ∷ []) (meaning.calls (symbol_of p main))
+    main_alone : (fs : List File) → files ≡ fs → p.name ≡ codes "main" → main_faults t files ≡ [] → IsWellTypedStart (p ∷ []) (meaning.calls (package_symbol p main))
     main_alone [] are named none = absurd (let no : [] ≡ codes "main" = ap package_name (sym are) ∙ named in cc (no))
     main_alone (f ∷ fs) are named none = main_signature f fs are ((bytes_eq-Decides f.package.text (codes "main")).1 (ap package_name (sym are) ∙ named)) none
 
-    pub main_start : p.name ≡ codes "main" → main_faults t files ≡ [] → IsStart packages (meaning.calls (symbol_of p main))
+    pub main_start : p.name ≡ codes "main" → main_faults t files ≡ [] → IsWellTypedStart packages (meaning.calls (package_symbol p main))
     main_start named none = own.0 main ∙ main_alone files refl named none
 
     some_of : {A B : Type 0} (f : A → B) (o : Option A) (y : B) → option_map f o ≡ Some y → IsSome o
@@ -456,5 +456,5 @@ module _ (packages : List typed.Package) (w : Table) (edition : Edition) (t : Fa
     -- it has a function main
     pub has_main : p.name ≡ codes "main" → main_faults t files ≡ [] → HasMain (Some p)
     has_main named none =
-        let there = some_of _ (meaning.function_at (p ∷ []) (symbol_of p main)) _ (main_alone files refl named none) in
+        let there = some_of _ (meaning.function_by_symbol (p ∷ []) (package_symbol p main)) _ (main_alone files refl named none) in
         (named, subst IsSome (function_here edition t names files h main) there)

@@ -14,7 +14,7 @@ use Rattle.go_ast.specs.Trees.{File}
 use Rattle.go_const.specs.declared.kind.IntKind.TheVariants as integers
 use Rattle.go_const.specs.Constants.{fits}
 use Rattle.go_typed.specs.Trees.{Package, Function, no_exprs, no_stmts, some_stmts, run as run_call}
-use Rattle.go_meaning.specs.Programs.{symbol_of}
+use Rattle.go_meaning.specs.Programs.{package_symbol}
 use Rattle.go_meaning_laws.specs.WellTyped.{is_text}
 use Rattle.go_stmt.specs.Functions.{function_at}
 use Rattle.go_export.specs.Exports.{exports_of}
@@ -115,6 +115,6 @@ parsed_checked = (library_checked, (caller_checked, tt))
 pub parsed_named : IsNamedMain (parsed_library ∷ parsed_caller ∷ [])
 parsed_named = (parsed_caller, refl, refl)
 
-pub parsed_calls : map (λ (f : Function). f.body) parsed_caller.functions ≡ some_stmts (run_call [] (symbol_of parsed_library (codes "F")) no_exprs) no_stmts ∷ []
+pub parsed_calls : map (λ (f : Function). f.body) parsed_caller.functions ≡ some_stmts (run_call [] (package_symbol parsed_library (codes "F")) no_exprs) no_stmts ∷ []
 unfolding function_at exports_of chars general_category value_in general_category_rows
 parsed_calls = refl

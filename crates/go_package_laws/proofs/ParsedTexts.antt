@@ -10,7 +10,7 @@ use Rattle.go_scan.specs.declared.token.TokenKind.TheVariants as kinds
 use Rattle.go_ast.specs.Grammar.{Lexeme, opening, closing, opening_brace, closing_brace, period, semicolon, IsExpr, IsFunction, AreImports, IsFile, Derives}
 use Rattle.go_ast.specs.Parse.{Derived, IsParse}
 use Rattle.go_ast.specs.Tokens.{lexemes}
-use Rattle.go_ast.specs.Trees.{Name, Expr, name as name_expr, selector, call, call_statement, simple, no_exprs, Block, block, no_stmts, some_stmts, ImportSpec, Function, function, File}
+use Rattle.go_ast.specs.Trees.{Name, Expression, name as name_expr, selector, call, call_statement, simple, no_exprs, Block, block, no_stmts, some_stmts, ImportSpec, FunctionDecl, function, File}
 use Rattle.go_package_laws.proofs.LexedTexts.{library_text, library_tokens, library_lexes, caller_text, caller_tokens, caller_lexes}
 
 -- a place on the first line, behind so many bytes
@@ -30,7 +30,7 @@ differ x y other same =
 
 -- ---- the library
 
-abbrev library_function : Function
+abbrev library_function : FunctionDecl
 library_function = record { place = at 12; name = name_at (codes "F") 17; parameters = []; results = []; body = block (at 20) no_stmts (at 21) }
 
 abbrev pub library_file : File
@@ -110,13 +110,13 @@ library_parses = (library_tokens, library_lexes, library_derives)
 
 -- ---- its caller
 
-abbrev called : Expr
+abbrev called : Expression
 called = call (at 38) (selector (at 38) (name_expr (at 38) (codes "lib")) (name_at (codes "F") 42)) no_exprs
 
 abbrev caller_body : Block
 caller_body = block (at 37) (some_stmts (simple (at 38) (call_statement called)) no_stmts) (at 45)
 
-abbrev caller_function : Function
+abbrev caller_function : FunctionDecl
 caller_function = record { place = at 26; name = name_at (codes "main") 31; parameters = []; results = []; body = caller_body }
 
 abbrev imports_library : ImportSpec

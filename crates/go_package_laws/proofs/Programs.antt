@@ -11,19 +11,19 @@ use Rattle.go_ast.specs.Trees.{File}
 use Rattle.go_typed.specs.Trees as typed
 use Rattle.go_symbol.specs.Symbols.{same_symbol}
 use Rattle.go_meaning.specs.Meaning.{Stored}
-use Rattle.go_meaning.specs.Programs.{Step, symbol_of, package_functions, first_variables, package_steps, main_steps, last_package, HasMain, IsProgram}
+use Rattle.go_meaning.specs.Programs.{StartStep, package_symbol, package_functions, first_variables, package_steps, main_steps, last_package, HasMain, IsProgram}
 use Rattle.go_meaning.specs.Programs as meaning
 use Rattle.go_expr.specs.Known.{Declared}
-use Rattle.go_objects.specs.Table.{Package}
+use Rattle.go_objects.specs.Table.{PackageTable}
 use Rattle.go_package.specs.Faults.{Facts}
 use Rattle.go_package.specs.Imports.{Importable, imports_of}
-use Rattle.go_package.specs.Packages.{file_faults, each_file, constants_faults, main_faults}
+use Rattle.go_package.specs.Packages.{file_faults, each_file, objects_faults, main_faults}
 use Rattle.go_package.specs.Typed.{typed_package}
 use Rattle.go_export.specs.Exports.{Exports, exports_of}
-use Rattle.go_check.specs.Names.{declared_as, names_by, importable_of}
-use Rattle.go_package_laws.specs.Finds.{AreWhole}
+use Rattle.go_check.specs.Names.{export_declares, names_by, importable_of}
+use Rattle.go_package_laws.specs.Finds.{AllImportsAreKnown}
 use Rattle.go_package_laws.proofs.Completeness.Apart.{parsed_apart}
-use Rattle.go_meaning_laws.specs.WellTyped.{Setting, IsFunction, IsStart, IsWellTyped}
+use Rattle.go_meaning_laws.specs.WellTyped.{Setting, IsWellTypedFunction, IsWellTypedStart, IsWellTyped}
 use Rattle.go_package_laws.proofs.Soundness.{Table, IsSoundType}
 use Rattle.go_package_laws.specs.Packages.{AreLibraries, IsChecked, AreCheckedBehind, AreChecked, IsNamedMain}
 use Rattle.go_package_laws.proofs.Types.{whole_type}
@@ -48,7 +48,7 @@ both_none (x ∷ xs) ys h = absurd cc
 abbrev entries : List Importable → List (List ℕ × List (List ℕ × Option Declared))
 entries ps = map (λ (p : Importable). (p.path, p.exports)) ps
 
-more_whole : (ps qs : List Importable) → AreWhole (entries ps) → AreWhole (entries qs) → AreWhole (entries (ps ++ qs))
+more_whole : (ps qs : List Importable) → AllImportsAreKnown (entries ps) → AllImportsAreKnown (entries qs) → AllImportsAreKnown (entries (ps ++ qs))
 more_whole [] qs h k = k
 more_whole (p ∷ ps) qs h k = (h.0, more_whole ps qs h.1 k)
 
@@ -56,13 +56,13 @@ names_whole : (path : List ℕ) (es : Exports) (x : List ℕ) → lookup (bytes_
 names_whole path [] x h = cc (h)
 names_whole path ((y, e) ∷ es) x h = elim (cases_Bool (bytes_eq x y)) [
   | inl is ↦ (
-      let one : Some (Some (declared_as path y e)) ≡ Some None = rw is at h in
-      let two : Some (declared_as path y e) ≡ None = cc (one) in
+      let one : Some (Some (export_declares path y e)) ≡ Some None = rw is at h in
+      let two : Some (export_declares path y e) ≡ None = cc (one) in
       cc (two))
   | inr not_so ↦ names_whole path es x (rw not_so at h)
 ]
 
-imported_whole : (qs : List typed.Package) → AreWhole (entries (map importable_of qs))
+imported_whole : (qs : List typed.Package) → AllImportsAreKnown (entries (map importable_of qs))
 imported_whole [] = tt
 imported_whole (q ∷ qs) = (names_whole q.path (exports_of q), imported_whole qs)
 
@@ -105,7 +105,7 @@ module _ (packages : List typed.Package) (w : Table) where
       let t = it.typed.facts in
       let ps = it.libraries ++ map importable_of it.imported in
       let whole = more_whole it.libraries (map importable_of it.imported) (libraries_whole it.libraries it.are_libraries) (imported_whole it.imported) in
-      let rest = both_none (each_file (file_faults ps t) 0 it.files) (constants_faults t it.files ++ main_faults t it.files) it.typed.none in
+      let rest = both_none (each_file (file_faults ps t) 0 it.files) (objects_faults t it.files ++ main_faults t it.files) it.typed.none in
       record {
         edition = it.edition;
         facts = t;
@@ -115,9 +115,9 @@ module _ (packages : List typed.Package) (w : Table) where
         is = it.typed.is;
         own = subst (HasOwn packages w) it.typed.is own;
         imports = ps;
-        are = ap (λ (q : Package). q.imports) it.typed.are.package_is;
+        are = ap (λ (q : PackageTable). q.imports) it.typed.are.package_is;
         sound = λ g d within. more_export it.libraries (map importable_of it.imported) g d (libraries_export it.libraries it.are_libraries g d) (imported_export before it.imported sound it.stand_before g d within);
-        mains = (both_none (constants_faults t it.files) (main_faults t it.files) rest.1).1;
+        mains = (both_none (objects_faults t it.files) (main_faults t it.files) rest.1).1;
       }
 
   good_exports : (p : typed.Package) → Good p → IsSoundFor packages w p
@@ -154,8 +154,8 @@ module _ (packages : List typed.Package) (w : Table) where
         let found = mapped_is (λ (v : Stored). v.of) (find test (flat_map first_variables packages)) u is in
         subst (IsSoundType w) (sym found.2) (found_of SoundStored test (flat_map first_variables packages) found.0 (all_stored packages good) found.1)
 
-    abbrev SoundFunction : meaning.Declared → Type 0
-    SoundFunction d = IsFunction packages d.function
+    abbrev SoundFunction : meaning.DeclaredFunction → Type 0
+    SoundFunction d = IsWellTypedFunction packages d.function
 
     one_functions : (p : typed.Package) → Good p → All SoundFunction (package_functions p)
     one_functions p h = subst (λ (q : typed.Package). All SoundFunction (package_functions q)) (sym h.is) (functions_sound packages w h.edition h.facts h.names h.files h.given h.own h.imports h.are h.sound variables_sound)
@@ -165,8 +165,8 @@ module _ (packages : List typed.Package) (w : Table) where
     all_functions (p ∷ ps) h = All-append SoundFunction (package_functions p) (flat_map package_functions ps) (one_functions p (All-head Good p ps h)) (all_functions ps (All-tail Good p ps h))
 
     -- what comes before main
-    abbrev Starts : Step → Type 0
-    Starts = IsStart packages
+    abbrev Starts : StartStep → Type 0
+    Starts = IsWellTypedStart packages
 
     one_steps : (p : typed.Package) → Good p → All Starts (package_steps p)
     one_steps p h =
@@ -183,10 +183,10 @@ module _ (packages : List typed.Package) (w : Table) where
       named_so : (typed_package last_good.edition last_good.facts last_good.names last_good.files).name ≡ codes "main"
       named_so = subst (λ (q : typed.Package). q.name ≡ codes "main") last_good.is named
 
-      main_called : IsStart packages (meaning.calls (symbol_of last main))
+      main_called : IsWellTypedStart packages (meaning.calls (package_symbol last main))
       main_called =
           let h = last_good in
-          subst (λ (q : typed.Package). IsStart packages (meaning.calls (symbol_of q main))) (sym h.is) (main_start packages w h.edition h.facts h.names h.files h.given h.own h.imports h.are h.sound named_so h.mains)
+          subst (λ (q : typed.Package). IsWellTypedStart packages (meaning.calls (package_symbol q main))) (sym h.is) (main_start packages w h.edition h.facts h.names h.files h.given h.own h.imports h.are h.sound named_so h.mains)
 
       main_there : HasMain (Some last)
       main_there =
@@ -195,7 +195,7 @@ module _ (packages : List typed.Package) (w : Table) where
 
       all_typed : IsWellTyped packages × IsProgram packages
       all_typed =
-          let last_steps = subst (λ (o : Option typed.Package). All Starts (main_steps o)) (sym is_last) (All-cons Starts (meaning.calls (symbol_of last main)) [] main_called (All-nil Starts)) in (
+          let last_steps = subst (λ (o : Option typed.Package). All Starts (main_steps o)) (sym is_last) (All-cons Starts (meaning.calls (package_symbol last main)) [] main_called (All-nil Starts)) in (
             record {
               functions = all_functions packages good;
               variables = λ k v lt. whole_type w (get_or (flat_map first_variables packages) k v).of (all_stored packages good k v lt);

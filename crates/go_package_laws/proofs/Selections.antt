@@ -17,10 +17,10 @@ use Rattle.go_types.specs.Relations.{underlying, assignable, is_literal}
 use Rattle.go_typed.specs.Trees as typed
 use Rattle.go_typed.specs.Trees.{Expr, constant, expr_type}
 use Rattle.go_meaning.specs.Choices.{field_at, field_type}
-use Rattle.go_meaning_laws.specs.WellTyped.{Setting, int, byte, is_text, is_integer, is_string, is_slice, indexed_type}
+use Rattle.go_meaning_laws.specs.WellTyped.{Setting, int_type, byte, is_text, is_integer_type, is_string_type, is_slice, index_result_type}
 use Rattle.go_expr.specs.Known.{Fine, Breaks}
 use Rattle.go_expr.specs.Rules as rules
-use Rattle.go_expr.specs.Rules.{constant_in, int_kind, in_kind, lies_in, default_type, settled, defaulted, numbered, listed, field_named, fields_of, is_visible, field_of, known_length, is_within, index_of, holds_call, length_in, length_of, capacity_of}
+use Rattle.go_expr.specs.Rules.{constant_in, int_kind, in_kind, lies_in, default_type, settled, defaulted, numbered, listed, field_named, fields_of, is_visible, field_verdict, known_length, is_within, index_verdict, holds_call, length_verdict, length_of, capacity_of}
 use Rattle.go_package_laws.proofs.Soundness.{Table, IsSoundType, AreSoundFields, is_of_kind, IsTypedValue, IsSoundValue}
 use Rattle.go_package_laws.proofs.Types.{sound_underlying, assignable_itself}
 use Rattle.go_package_laws.proofs.Constants.{text_is}
@@ -99,8 +99,8 @@ module _ (w : Table) (g : Setting) (d : List ℕ) where
   field_if path x e f h at true is = field_made e x f h at
   field_if path x e f h at false is = tt
 
-  pub field_gives : (path x : List ℕ) (e : Expr) → IsSoundValue w g d e → Gives (IsSoundValue w g d) (field_of path x e)
-  field_gives path x e h = elim (field_named x (fields_of (expr_type e))) as (λ o. field_named x (fields_of (expr_type e)) ≡ o → Gives (IsSoundValue w g d) (field_of path x e)) [
+  pub field_gives : (path x : List ℕ) (e : Expr) → IsSoundValue w g d e → Gives (IsSoundValue w g d) (field_verdict path x e)
+  field_gives path x e h = elim (field_named x (fields_of (expr_type e))) as (λ o. field_named x (fields_of (expr_type e)) ≡ o → Gives (IsSoundValue w g d) (field_verdict path x e)) [
     | None ↦ λ at. rw (at, Gives) tt
     | Some f ↦ λ at. rw (at, Gives) (field_if path x e f h at (is_visible path (f.1).0) refl)
   ] refl
@@ -140,7 +140,7 @@ module _ (w : Table) (g : Setting) (d : List ℕ) where
 
   -- a type that is indexed, below another, and that of its parts
   abbrev IsIndexed : Type' → Type' → Type 0
-  IsIndexed u t = (kind_below u ≡ None) × (indexed_type u ≡ Some t) × IsSoundType w t
+  IsIndexed u t = (kind_below u ≡ None) × (index_result_type u ≡ Some t) × IsSoundType w t
 
   indexed_sound : (u t : Type') (text : Bool) → string_below u ≡ text → IsSoundType w u → indexed_below u text ≡ Some t → IsIndexed u t
   indexed_sound (array n of) t text is h at = (refl, at, subst (IsSoundType w) (some_same of t at) h.2)
@@ -158,10 +158,10 @@ module _ (w : Table) (g : Setting) (d : List ℕ) where
   indexed v t (inl h) at = subst (λ u. IsIndexed (underlying u) t) (sym (sound_default w g d v h)) (indexed_sound (underlying v) t (rules.is_string v) refl (sound_underlying w v h) at)
   indexed v t (inr h) at = subst (λ u. IsIndexed (underlying (default_type u)) t) (sym h.1) (indexed_untyped h.0 t (subst (λ u. rules.indexed_type u ≡ Some t) h.1 at))
 
-  pub default_is_integer : (t : Type') → IsOperandType w t → rules.is_integer t ≡ true → is_integer (underlying (default_type t)) ≡ true
-  default_is_integer t (inl h) e = subst (λ u. is_integer (underlying u) ≡ true) (sym (sound_default w g d t h)) (sound_integer w t h e)
+  pub default_is_integer : (t : Type') → IsOperandType w t → rules.is_integer t ≡ true → is_integer_type (underlying (default_type t)) ≡ true
+  default_is_integer t (inl h) e = subst (λ u. is_integer_type (underlying u) ≡ true) (sym (sound_default w g d t h)) (sound_integer w t h e)
   default_is_integer t (inr h) e =
-      subst (λ u. is_integer (underlying (default_type u)) ≡ true) (sym h.1)
+      subst (λ u. is_integer_type (underlying (default_type u)) ≡ true) (sym h.1)
       (sound_integer w (default_type (basic (basics.Untyped h.0))) (subst (λ u. IsSoundType w (default_type u)) h.1 (default_sound w g d t (inr h))) (default_integer h.0 (subst (λ u. rules.is_integer u ≡ true) h.1 e)))
 
   index_made : (t : Type') (e i j : Expr) → IsSoundValue w g d e → IsSoundValue w g d i → rules.indexed_type (expr_type e) ≡ Some t → rules.is_integer (expr_type i) ≡ true
@@ -169,9 +169,9 @@ module _ (w : Table) (g : Setting) (d : List ℕ) where
   index_made t e i j h k at is good =
       let of = indexed (expr_type e) t (value_type w g d e h) at in
       let whole = settled_good e h of.0 in
-      let number = subst (λ u. is_integer (underlying u) ≡ true) (sym good.1) (default_is_integer (expr_type i) (value_type w g d i k) is) in
+      let number = subst (λ u. is_integer_type (underlying u) ≡ true) (sym good.1) (default_is_integer (expr_type i) (value_type w g d i k) is) in
       let sound = default_sound w g d (expr_type e) (value_type w g d e h) in
-      inr (inl ((whole.0, good.0, number, ap (λ u. indexed_type (underlying u)) whole.1 ∙ of.1), of.2, (subst (IsSoundType w) (sym whole.1) sound, whole.2)))
+      inr (inl ((whole.0, good.0, number, ap (λ u. index_result_type (underlying u)) whole.1 ∙ of.1), of.2, (subst (IsSoundType w) (sym whole.1) sound, whole.2)))
 
   index_within : (t : Type') (e i j : Expr) → IsSoundValue w g d e → IsSoundValue w g d i → rules.indexed_type (expr_type e) ≡ Some t → rules.is_integer (expr_type i) ≡ true
       → GoodAs w g d (default_type (expr_type i)) j → (b : Bool) → Gives (IsSoundValue w g d) (if b then Fine (typed.index t (settled e) j) else Breaks Index)
@@ -179,21 +179,21 @@ module _ (w : Table) (g : Setting) (d : List ℕ) where
   index_within t e i j h k at is good false = tt
 
   index_if : (t : Type') (e i : Expr) → IsSoundValue w g d e → IsSoundValue w g d i → rules.indexed_type (expr_type e) ≡ Some t → (b : Bool) → rules.is_integer (expr_type i) ≡ b
-      → Gives (IsSoundValue w g d) (index_of e i)
+      → Gives (IsSoundValue w g d) (index_verdict e i)
   index_if t e i h k at false is = rw (at, Gives, is) tt
   index_if t e i h k at true is = rw (at, Gives, is) (checked_gives (GoodAs w g d (default_type (expr_type i))) (IsSoundValue w g d) _ (defaulted i) (defaulted_gives w g d i k)
       (λ j good. index_within t e i j h k at is good (is_within (known_length e) (constant_in j))))
 
-  pub index_gives : (e i : Expr) → IsSoundValue w g d e → IsSoundValue w g d i → Gives (IsSoundValue w g d) (index_of e i)
-  index_gives e i h k = elim (rules.indexed_type (expr_type e)) as (λ o. rules.indexed_type (expr_type e) ≡ o → Gives (IsSoundValue w g d) (index_of e i)) [
+  pub index_gives : (e i : Expr) → IsSoundValue w g d e → IsSoundValue w g d i → Gives (IsSoundValue w g d) (index_verdict e i)
+  index_gives e i h k = elim (rules.indexed_type (expr_type e)) as (λ o. rules.indexed_type (expr_type e) ≡ o → Gives (IsSoundValue w g d) (index_verdict e i)) [
     | None ↦ λ at. rw (at, Gives) tt
     | Some t ↦ λ at. index_if t e i h k at (rules.is_integer (expr_type i)) refl
   ] refl
 
   -- ---- lengths: https://go.dev/ref/spec#Length_and_capacity
 
-  pub number : (n : ℕ) → fits (Some integers.Int) (pos n) ≡ true → IsSoundValue w g d (constant int (Integer (pos n)))
-  number n h = constant_value w g d int (Integer (pos n)) (inl refl) (basics.Integer integers.Int, refl, and_from (fits (Some integers.Int) (pos n)) true h refl)
+  pub number : (n : ℕ) → fits (Some integers.Int) (pos n) ≡ true → IsSoundValue w g d (constant int_type (Integer (pos n)))
+  number n h = constant_value w g d int_type (Integer (pos n)) (inl refl) (basics.Integer integers.Int, refl, and_from (fits (Some integers.Int) (pos n)) true h refl)
 
   -- what isn't constant, or is no text
   abbrev IsNoText : Expr → Type 0
@@ -204,36 +204,36 @@ module _ (w : Table) (g : Setting) (d : List ℕ) where
   kind_text kinds.String c h i = absurd (true≢false (sym i))
   kind_text k c h i = absurd (true≢false (sym h))
 
-  length_made : (e : Expr) → IsSoundValue w g d e → IsNoText e → rules.is_string (expr_type e) ≡ true → IsSoundValue w g d (typed.length int e)
+  length_made : (e : Expr) → IsSoundValue w g d e → IsNoText e → rules.is_string (expr_type e) ≡ true → IsSoundValue w g d (typed.length int_type e)
   length_made e (inl h) other is =
       let text = kind_text h.0 h.1 (subst (λ u. rules.is_string u ≡ true) (ap expr_type h.2) is) h.3 in
       absurd (other text.0 (ap constant_in h.2 ∙ ap Some text.1))
-  length_made e (inr (inl h)) other is = inr (inl ((h.0, or_left (is_string (underlying (expr_type e))) (is_slice (underlying (expr_type e))) (sound_string w (expr_type e) h.1 is), refl), refl, tt))
+  length_made e (inr (inl h)) other is = inr (inl ((h.0, or_left (is_string_type (underlying (expr_type e))) (is_slice (underlying (expr_type e))) (sound_string w (expr_type e) h.1 is), refl), refl, tt))
   length_made e (inr (inr h)) other is = absurd (true≢false (sym (subst (λ u. rules.is_string u ≡ true) h.1 is)))
 
   array_length : (e : Expr) (n : ℕ) (of : Type') → IsSoundValue w g d e → underlying (expr_type e) ≡ array n of → (b : Bool)
-      → Gives (IsSoundValue w g d) (if b then Breaks Mismatch else Fine (constant int (Integer (pos n))))
+      → Gives (IsSoundValue w g d) (if b then Breaks Mismatch else Fine (constant int_type (Integer (pos n))))
   array_length e n of h at true = tt
   array_length e n of h at false =
       let value = literal_value e (array n of) h at refl in
       let whole : IsSoundType w (array n of) = subst (IsSoundType w) at (sound_underlying w (expr_type e) value.1) in
       number n (counts n whole.0)
 
-  array_in : (e : Expr) (n : ℕ) (of : Type') → IsSoundValue w g d e → underlying (expr_type e) ≡ array n of → Gives (IsSoundValue w g d) (length_in e)
+  array_in : (e : Expr) (n : ℕ) (of : Type') → IsSoundValue w g d e → underlying (expr_type e) ≡ array n of → Gives (IsSoundValue w g d) (length_verdict e)
   array_in e n of h at = rw (at, Gives) (array_length e n of h at (holds_call e))
 
-  slice_length : (e : Expr) (of : Type') → IsSoundValue w g d e → underlying (expr_type e) ≡ slice of → IsSoundValue w g d (typed.length int e)
-  slice_length e of h at = inr (inl (((literal_value e (slice of) h at refl).0, ap (λ u. is_string u || is_slice u) at, refl), refl, tt))
+  slice_length : (e : Expr) (of : Type') → IsSoundValue w g d e → underlying (expr_type e) ≡ slice of → IsSoundValue w g d (typed.length int_type e)
+  slice_length e of h at = inr (inl (((literal_value e (slice of) h at refl).0, ap (λ u. is_string_type u || is_slice u) at, refl), refl, tt))
 
-  slice_capacity : (e : Expr) (of : Type') → IsSoundValue w g d e → underlying (expr_type e) ≡ slice of → IsSoundValue w g d (typed.capacity int e)
+  slice_capacity : (e : Expr) (of : Type') → IsSoundValue w g d e → underlying (expr_type e) ≡ slice of → IsSoundValue w g d (typed.capacity int_type e)
   slice_capacity e of h at = inr (inl (((literal_value e (slice of) h at refl).0, ap is_slice at, refl), refl, tt))
 
-  text_length : (e : Expr) → IsSoundValue w g d e → IsNoText e → (b : Bool) → rules.is_string (expr_type e) ≡ b → Gives (IsSoundValue w g d) (if b then Fine (typed.length int e) else Breaks Mismatch)
+  text_length : (e : Expr) → IsSoundValue w g d e → IsNoText e → (b : Bool) → rules.is_string (expr_type e) ≡ b → Gives (IsSoundValue w g d) (if b then Fine (typed.length int_type e) else Breaks Mismatch)
   text_length e h other true is = length_made e h other is
   text_length e h other false is = tt
 
-  length_in_gives : (e : Expr) → IsSoundValue w g d e → IsNoText e → Gives (IsSoundValue w g d) (length_in e)
-  length_in_gives e h other = elim (underlying (expr_type e)) as (λ u. underlying (expr_type e) ≡ u → Gives (IsSoundValue w g d) (length_in e)) [
+  length_in_gives : (e : Expr) → IsSoundValue w g d e → IsNoText e → Gives (IsSoundValue w g d) (length_verdict e)
+  length_in_gives e h other = elim (underlying (expr_type e)) as (λ u. underlying (expr_type e) ≡ u → Gives (IsSoundValue w g d) (length_verdict e)) [
     | array n of ↦ λ at. rw (at, Gives) (array_length e n of h at (holds_call e))
     | slice of ↦ λ at. rw (at, Gives) (slice_length e of h at)
     | _ ↦ λ at. rw (at, Gives) (text_length e h other (rules.is_string (expr_type e)) refl)

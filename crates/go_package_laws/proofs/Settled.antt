@@ -8,8 +8,8 @@ use Rattle.go_types.specs.Relations.{assignable}
 use Rattle.go_typed.specs.Trees.{Expr, expr_type}
 use Rattle.go_expr.specs.Known.{Fine}
 use Rattle.go_expr.specs.Rules.{fine, lies_in, default_type, defaulted, settled_type}
-use Rattle.go_stmt.specs.Scopes.{Env, paired, declare_new}
-use Rattle.go_stmt.specs.Rules.{Values, separate, together, no_values}
+use Rattle.go_stmt.specs.Scopes.{StatementEnv, paired_names, declare_new}
+use Rattle.go_stmt.specs.Rules.{AssignedValues, separate, together, no_values}
 use Rattle.go_stmt.specs.Statements.{alone_types}
 use Rattle.go_package_laws.proofs.Completeness.Forms.{AllDue, due_more, old_stays}
 use Rattle.go_package_laws.proofs.Completeness.Counts.{Fit}
@@ -59,7 +59,7 @@ all_settle : (ts : List Type') → Settle (map Some ts) ts
 all_settle [] = tt
 all_settle (t ∷ ts) = (refl, all_settle ts)
 
-pub alone_settle : (v : Values) → Settle (alone_types (Some v)) (own_types v)
+pub alone_settle : (v : AssignedValues) → Settle (alone_types (Some v)) (own_types v)
 alone_settle (separate es) = each_settles es
 alone_settle (together ts f es) = all_settle ts
 alone_settle no_values = tt
@@ -75,13 +75,13 @@ all_own (n ∷ ns) (Some t ∷ os) [] h k = absurd k
 all_own (n ∷ ns) (Some t ∷ os) (v ∷ vs) h k = ap (λ u. Some u ∷ os) k.0 ∙ ap (λ l. Some v ∷ l) (all_own ns os vs h.1 k.1)
 
 -- names that the block has take no type
-pub settled_new : (ns : List Name) (os : List (Option Type')) (vs : List Type') (env : Env) → AllDue env (paired ns os) → Settle os vs → declare_new (paired ns os) env ≡ declare_new (paired ns (map Some vs)) env
+pub settled_new : (ns : List Name) (os : List (Option Type')) (vs : List Type') (env : StatementEnv) → AllDue env (paired_names ns os) → Settle os vs → declare_new (paired_names ns os) env ≡ declare_new (paired_names ns (map Some vs)) env
 settled_new [] os vs env h k = refl
 settled_new (n ∷ ns) [] [] env h k = refl
 settled_new (n ∷ ns) [] (v ∷ vs) env h k = absurd k
 settled_new (n ∷ ns) (None ∷ os) [] env h k = absurd k
 settled_new (n ∷ ns) (Some t ∷ os) [] env h k = absurd k
-settled_new (n ∷ ns) (None ∷ os) (v ∷ vs) env h k = old_stays n None (paired ns os) env h.0 ∙ settled_new ns os vs env h.1 k ∙ sym (old_stays n (Some v) (paired ns (map Some vs)) env h.0)
+settled_new (n ∷ ns) (None ∷ os) (v ∷ vs) env h k = old_stays n None (paired_names ns os) env h.0 ∙ settled_new ns os vs env h.1 k ∙ sym (old_stays n (Some v) (paired_names ns (map Some vs)) env h.0)
 settled_new (n ∷ ns) (Some t ∷ os) (v ∷ vs) env h k =
-    settled_new ns os vs (declare_new ((n, Some t) ∷ []) env) (due_more (paired ns os) n t env h) k.1
-    ∙ ap (λ u. declare_new ((n, Some u) ∷ paired ns (map Some vs)) env) k.0
+    settled_new ns os vs (declare_new ((n, Some t) ∷ []) env) (due_more (paired_names ns os) n t env h) k.1
+    ∙ ap (λ u. declare_new ((n, Some u) ∷ paired_names ns (map Some vs)) env) k.0

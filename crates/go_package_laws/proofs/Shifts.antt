@@ -20,10 +20,10 @@ use Rattle.go_types.specs.Relations.{underlying, assignable}
 use Rattle.go_typed.specs.declared.expression.Operator.TheVariants as nodes
 use Rattle.go_typed.specs.Trees as typed
 use Rattle.go_typed.specs.Trees.{Expr, expr_type}
-use Rattle.go_meaning_laws.specs.WellTyped.{Setting, is_integer, IsExpr}
+use Rattle.go_meaning_laws.specs.WellTyped.{Setting, is_integer_type, IsExpr}
 use Rattle.go_expr.specs.Known.{Fine, Breaks}
 use Rattle.go_expr.specs.Rules as rules
-use Rattle.go_expr.specs.Rules.{constant_in, int_kind, is_untyped, lies_in, as_type, uint, counted_by, shift_of, shifted, binary_of}
+use Rattle.go_expr.specs.Rules.{constant_in, int_kind, is_untyped, lies_in, as_type, uint, counted_by, shift_of, shift_verdict, binary_verdict}
 use Rattle.go_package_laws.proofs.Soundness.{Table, IsSoundType, HasSoundWay, IsSoundValue}
 use Rattle.go_package_laws.proofs.Types.{untyped_bool}
 use Rattle.go_package_laws.proofs.Constants.{shift_operands}
@@ -38,7 +38,7 @@ module _ (w : Table) (g : Setting) (d : List ℕ) where
 
   -- an integer that has a type
   abbrev IsInteger : Expr → Type 0
-  IsInteger e = IsExpr g d e × IsSoundType w (expr_type e) × (is_integer (underlying (expr_type e)) ≡ true) × HasSoundWay w e
+  IsInteger e = IsExpr g d e × IsSoundType w (expr_type e) × (is_integer_type (underlying (expr_type e)) ≡ true) × HasSoundWay w e
 
   typed_integer : (e : Expr) → IsSoundValue w g d e → rules.is_integer (expr_type e) ≡ true → is_untyped (expr_type e) ≡ false → IsInteger e
   typed_integer e (inl h) is not_so = absurd (true≢false (sym (ap is_untyped (ap expr_type h.2)) ∙ not_so))
@@ -48,7 +48,7 @@ module _ (w : Table) (g : Setting) (d : List ℕ) where
   -- ---- the count
 
   abbrev IsCount : Expr → Type 0
-  IsCount e = IsExpr g d e × (is_integer (underlying (expr_type e)) ≡ true)
+  IsCount e = IsExpr g d e × (is_integer_type (underlying (expr_type e)) ≡ true)
 
   integer_assignable : (k : Untyped) → rules.is_integer (basic (basics.Untyped k)) ≡ true → assignable (basic (basics.Untyped k)) uint ≡ true
   integer_assignable kinds.Int e = refl
@@ -56,7 +56,7 @@ module _ (w : Table) (g : Setting) (d : List ℕ) where
   integer_assignable k e = absurd (true≢false (sym e))
 
   as_count : (e : Expr) → GoodAs w g d uint e → IsCount e
-  as_count e h = (h.0, subst (λ u. is_integer (underlying u) ≡ true) (sym h.1) refl)
+  as_count e h = (h.0, subst (λ u. is_integer_type (underlying u) ≡ true) (sym h.1) refl)
 
   untyped_count : (e : Expr) → IsSoundValue w g d e → rules.is_integer (expr_type e) ≡ true → lies_in uint e ≡ true → is_untyped (expr_type e) ≡ true → IsCount (as_type uint e)
   untyped_count e (inl h) is lies un =
@@ -102,7 +102,7 @@ module _ (w : Table) (g : Setting) (d : List ℕ) where
       within op x y (has_type x h is (inr (counted (is_untyped (expr_type x)) (constant_in y) to sure))) k also (lies_in uint y) refl
 
   shifted_if : (op : ShiftOperator) (x y : Expr) → IsSoundValue w g d x → IsSoundValue w g d y → (a b : Bool) → (is_untyped (expr_type x) && not (is_some (constant_in y))) ≡ a
-      → (rules.is_integer (expr_type x) && rules.is_integer (expr_type y)) ≡ b → Gives (IsSoundValue w g d) (shifted op x y)
+      → (rules.is_integer (expr_type x) && rules.is_integer (expr_type y)) ≡ b → Gives (IsSoundValue w g d) (shift_verdict op x y)
   shifted_if op x y h k true b p q = rw (p, Gives) tt
   shifted_if op x y h k false false p q = rw (p, Gives, q) tt
   shifted_if op x y h k false true p q = (
@@ -110,10 +110,10 @@ module _ (w : Table) (g : Setting) (d : List ℕ) where
       rw (p, Gives, q) (shift_by op x y h k both.0 both.1 p (constant_in x) (constant_in y) refl refl)
       )
 
-  shifted_gives : (op : ShiftOperator) (x y : Expr) → IsSoundValue w g d x → IsSoundValue w g d y → Gives (IsSoundValue w g d) (shifted op x y)
+  shifted_gives : (op : ShiftOperator) (x y : Expr) → IsSoundValue w g d x → IsSoundValue w g d y → Gives (IsSoundValue w g d) (shift_verdict op x y)
   shifted_gives op x y h k = shifted_if op x y h k (is_untyped (expr_type x) && not (is_some (constant_in y))) (rules.is_integer (expr_type x) && rules.is_integer (expr_type y)) refl refl
 
-  pub binary_gives : (op : source.BinaryOperator) (x y : Expr) → IsSoundValue w g d x → IsSoundValue w g d y → Gives (IsSoundValue w g d) (binary_of op x y)
+  pub binary_gives : (op : source.BinaryOperator) (x y : Expr) → IsSoundValue w g d x → IsSoundValue w g d y → Gives (IsSoundValue w g d) (binary_verdict op x y)
   binary_gives operators.Multiply x y h k = combined_gives w g d (Arithmetic Multiply) x y h k
   binary_gives operators.Divide x y h k = combined_gives w g d (Arithmetic Divide) x y h k
   binary_gives operators.Remainder x y h k = combined_gives w g d (Arithmetic Remainder) x y h k

@@ -26,7 +26,7 @@ use Rattle.go_expr.specs.Known.{Declared, value, type', Names}
 use Rattle.go_meaning.specs.Values.{single, is_basic, is_of}
 use Rattle.go_meaning.specs.Choices.{cell_of}
 use Rattle.go_meaning_laws.specs.WellTyped.{Setting, signature_at, variable_at}
-use Rattle.go_export.specs.Exports.{Export, named_constant, named_type, named_variable, named_function, declared_by, exports_of}
+use Rattle.go_export.specs.Exports.{Export, named_constant, exported_type, named_variable, named_function, declared_by, exports_of}
 use Rattle.go_export.specs.Exports as exports
 use Rattle.go_export.specs.Writable.{kind_of, value_kind, IsValue, IsShown}
 use Rattle.go_export.proofs.Found.{shown}
@@ -185,10 +185,10 @@ module _ (packages : List typed.Package) where
       (constants_shown g d known (next g d _ known h))
   constants_shown g d ((x, v) ∷ known) h = constants_shown g d known (next g d (x, v) known h)
 
-  types_shown : (g : Setting) (d : List ℕ) (known : Names) → TableSound w g d known → All Shown (map named_type (types_in known))
+  types_shown : (g : Setting) (d : List ℕ) (known : Names) → TableSound w g d known → All Shown (map exported_type (types_in known))
   types_shown g d [] h = All-nil Shown
   types_shown g d ((x, Some (type' t)) ∷ known) h =
-      All-cons Shown (x, exports.type' t) (map named_type (types_in known)) (writable t (h 0 x (type' t) refl)) (types_shown g d known (next g d _ known h))
+      All-cons Shown (x, exports.type' t) (map exported_type (types_in known)) (writable t (h 0 x (type' t) refl)) (types_shown g d known (next g d _ known h))
   types_shown g d ((x, v) ∷ known) h = types_shown g d known (next g d (x, v) known h)
 
   abbrev SoundVariable : typed.Variable → Type 0
@@ -219,7 +219,7 @@ module _ (packages : List typed.Package) where
       let variables = variables_shown q.variables (variables_sound packages w h.edition h.facts h.names h.files h.given h.own h.imports h.are h.sound) in
       let functions = functions_shown q.functions (signatures_sound packages w h.edition h.facts h.names h.files h.given h.own h.imports h.are h.sound) in
       let cs = map named_constant q.constants in
-      let ts = map named_type q.types in
+      let ts = map exported_type q.types in
       let vs = map named_variable q.variables in
       let fs = map named_function q.functions in
       let all = All-append Shown (cs ++ ts ++ vs) fs (All-append Shown (cs ++ ts) vs (All-append Shown cs ts constants types) variables) functions in

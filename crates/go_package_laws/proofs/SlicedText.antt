@@ -12,7 +12,7 @@ use Rattle.go_scan.specs.Lex.{Lexes}
 use Rattle.go_ast.specs.Grammar.{Lexeme, assign, opening, closing, opening_bracket, closing_bracket, opening_brace, closing_brace, semicolon, IsExpr, IsDecl, IsFunction, IsFile, Derives}
 use Rattle.go_ast.specs.Parse.{Derived, IsParse}
 use Rattle.go_ast.specs.Tokens.{lexemes}
-use Rattle.go_ast.specs.Trees.{TypeExpr, named, slice, Expr, integer, composite_lit, element, no_elements, expression_element, no_exprs, some_exprs, block, no_stmts, variables, Decl, declared, Function, function, File}
+use Rattle.go_ast.specs.Trees.{TypeExpr, named, slice, Expression, integer, composite_lit, element, no_elements, expression_element, no_exprs, some_exprs, block, no_stmts, variables, Decl, declared, FunctionDecl, function, File}
 use Rattle.go_package_laws.proofs.LexedTexts.{token, pieces_in, row_by}
 use Rattle.go_package_laws.proofs.ParsedTexts.{at, name_at, lexeme_at, differ}
 
@@ -41,13 +41,13 @@ sliced_lexes = (pieces_in 22 sliced_text, row_by 22 false sliced_text refl, refl
 abbrev ints : TypeExpr
 ints = slice (at 19) (named (at 21) (name_at (codes "int") 21))
 
-abbrev literal : Expr
+abbrev literal : Expression
 literal = composite_lit (at 19) ints (at 24) (element None (expression_element (integer (at 25) (codes "1"))) no_elements)
 
 abbrev declaration : Decl
 declaration = variables (at 13) (record { names = name_at (codes "x") 17 ∷ []; type = None; values = some_exprs literal no_exprs } ∷ [])
 
-abbrev main_function : Function
+abbrev main_function : FunctionDecl
 main_function = record { place = at 28; name = name_at (codes "main") 33; parameters = []; results = []; body = block (at 39) no_stmts (at 40) }
 
 abbrev pub sliced_file : File

@@ -15,10 +15,10 @@ use Rattle.go_types.specs.Types.{Type', basic, slice}
 use Rattle.go_types.specs.Relations.{underlying}
 use Rattle.go_typed.specs.Trees as typed
 use Rattle.go_typed.specs.Trees.{Expr, Perhaps, absent, present, constant, expr_type, pack_exprs}
-use Rattle.go_meaning_laws.specs.WellTyped.{Setting, is_integer, is_string, is_slice, IsExpr, IsSize}
+use Rattle.go_meaning_laws.specs.WellTyped.{Setting, is_integer_type, is_string_type, is_slice, IsExpr, IsSize}
 use Rattle.go_expr.specs.Known.{Fine, Breaks}
 use Rattle.go_expr.specs.Rules as rules
-use Rattle.go_expr.specs.Rules.{checked, constant_in, int, slice_element, default_type, settled, assigned, known_length, each_unless, when, is_bound, as_count, bound_of, are_ordered, cut_to, given_bounds, cut_of, size_of, made_of, sizes_faults, made, appended}
+use Rattle.go_expr.specs.Rules.{checked, constant_in, int, slice_element, default_type, settled, assigned, known_length, fine_list, when, is_bound, as_count, bound_verdict, are_ordered, cut_to, given_bounds, cut_of, size_verdict, made_of, sizes_faults, make_verdict, append_verdict}
 use Rattle.go_package_laws.proofs.Soundness.{Table, IsSoundType, is_of_kind, IsSoundValue}
 use Rattle.go_package_laws.proofs.Types.{whole_type, sound_underlying}
 use Rattle.go_package_laws.proofs.Assigned.{Gives, IsOperandType, value_type, default_sound, sound_default, GoodAs, assigned_gives}
@@ -40,7 +40,7 @@ string_below u = elim u [ basic basics.String ↦ true | basic (basics.Untyped k
 
 -- a slice or a string, below a type
 abbrev IsCut : Type' → Type 0
-IsCut u = (kind_below u ≡ None) × ((is_string u || is_slice u) ≡ true)
+IsCut u = (kind_below u ≡ None) × ((is_string_type u || is_slice u) ≡ true)
 
 cut_below : (w : Table) (u : Type') → IsSoundType w u → (is_some (element_below u) || string_below u) ≡ true → IsCut u
 cut_below w (slice of) h is = (refl, refl)
@@ -69,7 +69,7 @@ module _ (w : Table) (g : Setting) (d : List ℕ) where
   -- ---- numbers that count elements
 
   abbrev IsCount : Expr → Type 0
-  IsCount x = IsExpr g d x × (is_integer (underlying (expr_type x)) ≡ true)
+  IsCount x = IsExpr g d x × (is_integer_type (underlying (expr_type x)) ≡ true)
 
   int_counts : (c : Const) (n : Option ℕ) → is_of_kind kinds.Int c ≡ true → is_bound n (Some c) ≡ true → IsExpr g d (constant int c)
   int_counts (Integer (pos i)) n h is = (fits_bound i n is, refl)
@@ -95,21 +95,21 @@ module _ (w : Table) (g : Setting) (d : List ℕ) where
   counted n e (inr (inl h)) is bound = rw (sound_typed w (expr_type e) h.1) (h.0, sound_integer w (expr_type e) h.1 is)
   counted n e (inr (inr h)) is bound = absurd (true≢false (sym (subst (λ (u : Type'). rules.is_integer u ≡ true) h.1 is)))
 
-  bound_if : (n : Option ℕ) (e : Expr) → IsSoundValue w g d e → (a b : Bool) → rules.is_integer (expr_type e) ≡ a → is_bound n (constant_in e) ≡ b → Gives IsCount (bound_of n e)
+  bound_if : (n : Option ℕ) (e : Expr) → IsSoundValue w g d e → (a b : Bool) → rules.is_integer (expr_type e) ≡ a → is_bound n (constant_in e) ≡ b → Gives IsCount (bound_verdict n e)
   bound_if n e h false b p q = rw p tt
   bound_if n e h true false p q = rw (p, q) tt
   bound_if n e h true true p q = rw (p, q) (counted n e h p q)
 
-  size_if : (e : Expr) → IsSoundValue w g d e → (a b : Bool) → rules.is_integer (expr_type e) ≡ a → is_bound None (constant_in e) ≡ b → Gives IsCount (size_of e)
+  size_if : (e : Expr) → IsSoundValue w g d e → (a b : Bool) → rules.is_integer (expr_type e) ≡ a → is_bound None (constant_in e) ≡ b → Gives IsCount (size_verdict e)
   size_if e h false b p q = rw p tt
   size_if e h true false p q = rw (p, q) tt
   size_if e h true true p q = rw (p, q) (counted None e h p q)
 
-  all_bounds : (n : Option ℕ) (es : List Expr) → Every (IsSoundValue w g d) es → Every (Gives IsCount) (map (bound_of n) es)
+  all_bounds : (n : Option ℕ) (es : List Expr) → Every (IsSoundValue w g d) es → Every (Gives IsCount) (map (bound_verdict n) es)
   all_bounds n [] h = tt
   all_bounds n (e ∷ es) h = (bound_if n e h.0 (rules.is_integer (expr_type e)) (is_bound n (constant_in e)) refl refl, all_bounds n es h.1)
 
-  all_sizes : (es : List Expr) → Every (IsSoundValue w g d) es → Every (Gives IsCount) (map size_of es)
+  all_sizes : (es : List Expr) → Every (IsSoundValue w g d) es → Every (Gives IsCount) (map size_verdict es)
   all_sizes [] h = tt
   all_sizes (e ∷ es) h = (size_if e h.0 (rules.is_integer (expr_type e)) (is_bound None (constant_in e)) refl refl, all_sizes es h.1)
 
@@ -148,8 +148,8 @@ module _ (w : Table) (g : Setting) (d : List ℕ) where
   cut_if e a b h k l false at = rw at tt
   cut_if e a b h k l true at = rw at (
       let n = known_length e in
-      let vs = map (bound_of n) (given_bounds a b) in
-      checked_gives (Every IsCount) (IsSoundValue w g d) (cut_to e) (each_unless [] vs)
+      let vs = map (bound_verdict n) (given_bounds a b) in
+      checked_gives (Every IsCount) (IsSoundValue w g d) (cut_to e) (fine_list [] vs)
       (each_gives (Every IsCount) [] vs (λ none sure. fine_ones IsCount vs (all_bounds n (given_bounds a b) (given_sound a b k l)))) (λ xs good. cut_to_gives e h at xs good)
       )
 
@@ -164,11 +164,11 @@ module _ (w : Table) (g : Setting) (d : List ℕ) where
   made_of_gives t h is (n ∷ m ∷ []) k = inr (inl ((whole_type w t h, some_is_slice (underlying t) is, (k.0).0, (k.0).1, (k.1).0), h, tt))
   made_of_gives t h is (n ∷ m ∷ x ∷ xs) k = tt
 
-  pub made_gives : (t : Type') (xs : List Expr) → IsSoundType w t → Every (IsSoundValue w g d) xs → Gives (IsSoundValue w g d) (made t xs)
+  pub made_gives : (t : Type') (xs : List Expr) → IsSoundType w t → Every (IsSoundValue w g d) xs → Gives (IsSoundValue w g d) (make_verdict t xs)
   made_gives t xs h k =
       let no_slice = when (not (is_some (slice_element t))) Mismatch in
-      let vs = map size_of xs in
-      checked_gives (λ ys. (is_some (slice_element t) ≡ true) × Every IsCount ys) (IsSoundValue w g d) (made_of t) (each_unless (no_slice ++ sizes_faults xs) vs)
+      let vs = map size_verdict xs in
+      checked_gives (λ ys. (is_some (slice_element t) ≡ true) × Every IsCount ys) (IsSoundValue w g d) (made_of t) (fine_list (no_slice ++ sizes_faults xs) vs)
       (each_gives (λ ys. (is_some (slice_element t) ≡ true) × Every IsCount ys) (no_slice ++ sizes_faults xs) vs (λ none sure. (
         not_false (is_some (slice_element t)) (when_none (not (is_some (slice_element t))) Mismatch (both_empty no_slice (sizes_faults xs) none).0),
         fine_ones IsCount vs (all_sizes xs k),
@@ -182,19 +182,19 @@ module _ (w : Table) (g : Setting) (d : List ℕ) where
   all_assigned of (x ∷ xs) h k = (assigned_gives w g d of x h k.0, all_assigned of xs h k.1)
 
   append_made : (s : Expr) (xs : List Expr) (of : Type') → slice_element (expr_type s) ≡ Some of → IsSoundValue w g d s → Every (IsSoundValue w g d) xs
-      → Gives (IsSoundValue w g d) (checked (λ ys. Fine (typed.append (expr_type s) (present s) (pack_exprs ys))) (each_unless [] (map (assigned of) xs)))
+      → Gives (IsSoundValue w g d) (checked (λ ys. Fine (typed.append (expr_type s) (present s) (pack_exprs ys))) (fine_list [] (map (assigned of) xs)))
   append_made s xs of at h k =
       let under = slice_is (underlying (expr_type s)) of at in
       let value = literal_value w g d s (slice of) h under refl in
       let sound : IsSoundType w of = subst (IsSoundType w) under (sound_underlying w (expr_type s) value.1) in
       let vs = map (assigned of) xs in
-      checked_gives (Every (GoodAs w g d of)) (IsSoundValue w g d) _ (each_unless [] vs)
+      checked_gives (Every (GoodAs w g d of)) (IsSoundValue w g d) _ (fine_list [] vs)
       (each_gives (Every (GoodAs w g d of)) [] vs (λ none sure. fine_ones (GoodAs w g d of) vs (all_assigned of xs sound k)))
       (λ ys good. inr (inl ((whole_type w (expr_type s) value.1, (value.0, refl), (of, under, packed_elements w g d of ys good)), value.1, tt)))
 
-  pub appended_gives : (xs : List Expr) → Every (IsSoundValue w g d) xs → Gives (IsSoundValue w g d) (appended xs)
+  pub appended_gives : (xs : List Expr) → Every (IsSoundValue w g d) xs → Gives (IsSoundValue w g d) (append_verdict xs)
   appended_gives [] h = tt
-  appended_gives (s ∷ xs) h = elim (slice_element (expr_type s)) as (λ o. slice_element (expr_type s) ≡ o → Gives (IsSoundValue w g d) (appended (s ∷ xs))) [
+  appended_gives (s ∷ xs) h = elim (slice_element (expr_type s)) as (λ o. slice_element (expr_type s) ≡ o → Gives (IsSoundValue w g d) (append_verdict (s ∷ xs))) [
     | None ↦ λ at. rw (at, Gives) tt
     | Some of ↦ λ at. rw (at, Gives) (append_made s xs of at h.0 h.1)
   ] refl

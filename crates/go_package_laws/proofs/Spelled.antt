@@ -4,7 +4,7 @@ use Rattle.go_text.specs.declared.edition.Edition.{Edition}
 use Rattle.go_scan.specs.declared.token.TokenKind.{TokenKind}
 use Rattle.go_scan.specs.declared.token.TokenKind.TheVariants as kinds
 use Rattle.go_scan.specs.Words.{IsWord}
-use Rattle.go_ast.specs.Trees.{Name, TypeExpr, named, qualified, array, slice, struct, Fields, no_fields, field, Expr, name, integer, rune, string, parenthesized, composite_lit, conversion, selector, index, cut, Bound, no_bound, bound, call, type_operand, unary, binary, Exprs, no_exprs, some_exprs, Elements, no_elements, element, Element, expression_element, value_element}
+use Rattle.go_ast.specs.Trees.{Name, TypeExpr, named, qualified, array, slice, struct, FieldDecls, no_fields, field, Expression, name, integer, rune, string, parenthesized, composite_lit, conversion, selector, index, cut, Bound, no_bound, bound, call, type_operand, unary, binary, ExpressionList, no_exprs, some_exprs, Elements, no_elements, element, Element, expression_element, value_element}
 use Rattle.go_ast.specs.Grammar.{Lexeme, name_of, Token, AreMoreNames, AreNames, MayBe, IsKey, IsType, AreFields, IsExpr, IsBound, IsTypeOperand, AreOperands, AreArguments, AreElements, IsElement, AreMoreExprs, AreExprs}
 use Rattle.go_meaning_laws.specs.WellTyped.{is_text}
 use Rattle.go_package_laws.proofs.Texts.{AreWords, HasTexts, BoundHasTexts, HaveTexts, ElementsHaveTexts, ElementHasTexts, TypeHasTexts, FieldsHaveTexts}
@@ -72,7 +72,7 @@ module _ (ed : Edition) where
         let one = fields_texts fs xs ys fields (behind_token _ o vs xs open_one (behind_token _ k us vs word texts)) in
         (one.0, behind_token _ c ys ws close one.1)
 
-    fields_texts : (fs : Fields) (us ws : List Lexeme) → AreFields ed fs us ws → AreTexts us → FieldsHaveTexts fs × AreTexts ws
+    fields_texts : (fs : FieldDecls) (us ws : List Lexeme) → AreFields ed fs us ws → AreTexts us → FieldsHaveTexts fs × AreTexts ws
     fields_texts no_fields us ws h texts = (tt, subst AreTexts h texts)
     fields_texts (field ns a fs) us ws (vs, xs, names, of, inl (t, ys, mark, rest)) texts =
         let one = type_texts a vs xs of (behind_names ns us vs names texts) in
@@ -82,7 +82,7 @@ module _ (ed : Edition) where
         let one = type_texts a vs xs of (behind_names ns us vs names texts) in
         ((one.0, subst FieldsHaveTexts (sym last) tt, names_words ns us vs names texts), subst AreTexts same one.1)
 
-    pub expr_texts : (n : ℕ) (h : Bool) (e : Expr) (us ws : List Lexeme) → IsExpr ed n h e us ws → AreTexts us → HasTexts e × AreTexts ws
+    pub expr_texts : (n : ℕ) (h : Bool) (e : Expression) (us ws : List Lexeme) → IsExpr ed n h e us ws → AreTexts us → HasTexts e × AreTexts ws
     expr_texts n h (name p x) us ws (t, one, at, is) texts = (tt, behind_token _ t us ws one texts)
     expr_texts n h (integer p x) us ws (t, one, at, is) texts = (tt, behind_token _ t us ws one texts)
     expr_texts n h (rune p z) us ws (t, one, at, is) texts = (tt, behind_token _ t us ws one texts)
@@ -128,11 +128,11 @@ module _ (ed : Edition) where
     bound_texts no_bound us ws h texts = (tt, subst AreTexts h texts)
     bound_texts (bound e) us ws h texts = expr_texts 5 false e us ws h texts
 
-    type_operand_texts : (e : Expr) (us ws : List Lexeme) → IsTypeOperand ed e us ws → AreTexts us → HasTexts e × AreTexts ws
+    type_operand_texts : (e : Expression) (us ws : List Lexeme) → IsTypeOperand ed e us ws → AreTexts us → HasTexts e × AreTexts ws
     type_operand_texts (type_operand p a) us ws (has, other, is, at) texts = type_texts a us ws is texts
     type_operand_texts e us ws is texts = absurd is
 
-    operands_texts : (es : Exprs) (us ws : List Lexeme) → AreOperands ed es us ws → AreTexts us → HaveTexts es × AreTexts ws
+    operands_texts : (es : ExpressionList) (us ws : List Lexeme) → AreOperands ed es us ws → AreTexts us → HaveTexts es × AreTexts ws
     operands_texts no_exprs us ws h texts = (tt, subst AreTexts h texts)
     operands_texts (some_exprs e es) us ws (vs, inl inner, inl (t, xs, mark, rest)) texts =
         let one = expr_texts 5 false e us vs inner texts in
@@ -149,7 +149,7 @@ module _ (ed : Edition) where
         let one = type_operand_texts e us vs inner texts in
         ((one.0, subst HaveTexts (sym last) tt), subst AreTexts same one.1)
 
-    arguments_texts : (es : Exprs) (us ws : List Lexeme) → AreArguments ed es us ws → AreTexts us → HaveTexts es × AreTexts ws
+    arguments_texts : (es : ExpressionList) (us ws : List Lexeme) → AreArguments ed es us ws → AreTexts us → HaveTexts es × AreTexts ws
     arguments_texts no_exprs us ws h texts = (tt, subst AreTexts h texts)
     arguments_texts (some_exprs e es) us ws (vs, inner, inl (t, xs, mark, rest)) texts =
         let one = expr_texts 5 false e us vs inner texts in
@@ -176,14 +176,14 @@ module _ (ed : Edition) where
         (one.0, behind_token _ c xs ws close one.1)
 
   -- lists of expressions
-  more_exprs : (h : Bool) (es : Exprs) (us ws : List Lexeme) → AreMoreExprs ed h es us ws → AreTexts us → HaveTexts es × AreTexts ws
+  more_exprs : (h : Bool) (es : ExpressionList) (us ws : List Lexeme) → AreMoreExprs ed h es us ws → AreTexts us → HaveTexts es × AreTexts ws
   more_exprs h no_exprs us ws is texts = (tt, subst AreTexts is texts)
   more_exprs h (some_exprs e es) us ws (c, vs, xs, comma, inner, rest) texts =
       let one = expr_texts 5 h e vs xs inner (behind_token _ c us vs comma texts) in
       let two = more_exprs h es xs ws rest one.1 in
       ((one.0, two.0), two.1)
 
-  pub exprs_texts : (h : Bool) (es : Exprs) (us ws : List Lexeme) → AreExprs ed h es us ws → AreTexts us → HaveTexts es × AreTexts ws
+  pub exprs_texts : (h : Bool) (es : ExpressionList) (us ws : List Lexeme) → AreExprs ed h es us ws → AreTexts us → HaveTexts es × AreTexts ws
   exprs_texts h no_exprs us ws is texts = absurd is
   exprs_texts h (some_exprs e es) us ws (vs, inner, rest) texts =
       let one = expr_texts 5 h e us vs inner texts in

@@ -12,7 +12,7 @@ use Rattle.go_scan.specs.declared.escapes.Form.{Form}
 use Rattle.go_scan.specs.declared.escapes.Form.TheVariants.{Octal, Two, Four, Eight}
 use Rattle.go_scan.specs.declared.escapes.Meaning.{Meaning}
 use Rattle.go_scan.specs.declared.escapes.Meaning.TheVariants.{Byte, Character}
-use Rattle.go_scan.specs.Escapes.{letter_escape, opening, count, base, number_from, is_code, means, IsEscape, bytes_of}
+use Rattle.go_scan.specs.Escapes.{letter_escape, escape_prefix, count, escape_base, number_from, is_code, means, IsEscape, escape_bytes}
 use Rattle.go_scan.specs.Strings.{Part, IsPart, is_kept, StringMeans, StringValue}
 use Rattle.go_meaning_laws.specs.WellTyped.{is_text}
 
@@ -90,33 +90,33 @@ letter b c at =
     (one_of (nat_eq b 114) 13 c _ (omega arith) (one_of (nat_eq b 116) 9 c _ (omega arith) (one_of (nat_eq b 118) 11 c _ (omega arith) (one_of (nat_eq b 92) 92 c _ (omega arith)
     (one_of (nat_eq b 34) 34 c None (omega arith) (no_escape c))))))))) at
 
-byte_of : (n : ℕ) (m : Meaning) (b : Bool) → nat_lt n 256 ≡ b → (if b then Some (Byte n) else None) ≡ Some m → Within (bytes_of m) 4
-byte_of n m true small at = (let same : Byte n ≡ m = cc in subst (λ r. Within (bytes_of r) 4) same (more_bytes n [] (ltb-true n 256 small) refl, omega arith))
+byte_of : (n : ℕ) (m : Meaning) (b : Bool) → nat_lt n 256 ≡ b → (if b then Some (Byte n) else None) ≡ Some m → Within (escape_bytes m) 4
+byte_of n m true small at = (let same : Byte n ≡ m = cc in subst (λ r. Within (escape_bytes r) 4) same (more_bytes n [] (ltb-true n 256 small) refl, omega arith))
 byte_of n m false small at = absurd cc
 
-character_of : (n : ℕ) (m : Meaning) (b : Bool) → is_code n ≡ b → (if b then Some (Character n) else None) ≡ Some m → Within (bytes_of m) 4
-character_of n m true code at = (let same : Character n ≡ m = cc in subst (λ r. Within (bytes_of r) 4) same (character n (code_small n code)))
+character_of : (n : ℕ) (m : Meaning) (b : Bool) → is_code n ≡ b → (if b then Some (Character n) else None) ≡ Some m → Within (escape_bytes m) 4
+character_of n m true code at = (let same : Character n ≡ m = cc in subst (λ r. Within (escape_bytes r) 4) same (character n (code_small n code)))
 character_of n m false code at = absurd cc
 
-meant : (form : Form) (n : ℕ) (m : Meaning) → means form n ≡ Some m → Within (bytes_of m) 4
+meant : (form : Form) (n : ℕ) (m : Meaning) → means form n ≡ Some m → Within (escape_bytes m) 4
 meant Octal n m at = byte_of n m (nat_lt n 256) refl at
 meant Two n m at = byte_of n m (nat_lt n 256) refl at
 meant Four n m at = character_of n m (is_code n) refl at
 meant Eight n m at = character_of n m (is_code n) refl at
 
-long_enough : (form : Form) (digits : List ℕ) → length digits ≡ count form → 4 ≤ length (92 ∷ opening form ++ digits)
+long_enough : (form : Form) (digits : List ℕ) → length digits ≡ count form → 4 ≤ length (92 ∷ escape_prefix form ++ digits)
 long_enough Octal digits h = omega (arith, h)
 long_enough Two digits h = omega (arith, h)
 long_enough Four digits h = omega (arith, h)
 long_enough Eight digits h = omega (arith, h)
 
-escaped : (bytes : List ℕ) (m : Meaning) → IsEscape 34 bytes m → Within (bytes_of m) (length bytes)
+escaped : (bytes : List ℕ) (m : Meaning) → IsEscape 34 bytes m → Within (escape_bytes m) (length bytes)
 escaped bytes m (inl (b, c, at, is, meaning)) =
-    subst (λ r. Within (bytes_of r) (length bytes)) (sym meaning) (more_bytes c [] (letter b c is) refl, (let long : length bytes ≡ 2 = ap length at in omega (arith, long)))
+    subst (λ r. Within (escape_bytes r) (length bytes)) (sym meaning) (more_bytes c [] (letter b c is) refl, (let long : length bytes ≡ 2 = ap length at in omega (arith, long)))
 escaped bytes m (inr (form, digits, at, many, all, is)) =
-    let value = meant form (number_from (base form) 0 digits) m is in
+    let value = meant form (number_from (escape_base form) 0 digits) m is in
     let long = long_enough form digits many in
-    let same : length bytes ≡ length (92 ∷ opening form ++ digits) = ap length at in
+    let same : length bytes ≡ length (92 ∷ escape_prefix form ++ digits) = ap length at in
     (value.0, (let short = value.1 in omega (arith, short, long, same)))
 
 -- ---- string literals

@@ -8,8 +8,8 @@ use Rattle.ws_reach.proofs.Reached.{contains_get, get_contains}
 use Rattle.go_scope.specs.Order.{GroundedIn, Grounded}
 use Rattle.go_expr.specs.Known.{Declared, Names, declared, Fine}
 use Rattle.go_expr.specs.Rules.{fine}
-use Rattle.go_objects.specs.Objects.{Object}
-use Rattle.go_objects.specs.Table.{Package, imports_at, needs, rows, scope_at, iota_in, object_verdict, declared_in, IsTable}
+use Rattle.go_objects.specs.Objects.{DeclaredObject}
+use Rattle.go_objects.specs.Table.{PackageTable, imports_at, needs, rows, scope_at, iota_in, object_verdict, declared_in, IsTable}
 use Rattle.go_objects.proofs.Lookups.{same_object, need_edge}
 use Rattle.go_meaning_laws.specs.WellTyped.{Setting}
 use Rattle.go_package_laws.proofs.Soundness.{Table}
@@ -91,14 +91,14 @@ within (y ∷ ys) (suc k) x at = (let lt = within ys k x at in omega (arith, lt)
 -- ---- tables
 
 -- what a package's table has, and what is given of its objects
-pub record Told (p : Package) (known : Names) : Type 0 where
+pub record Told (p : PackageTable) (known : Names) : Type 0 where
   pub table : IsTable p known
   pub grounded : (k : ℕ) → Grounded (rows p) k
-  pub texts : (k : ℕ) (o : Object) → slice_get p.objects k ≡ Some o → FormHasTexts o.form
-  pub named : (k : ℕ) (o : Object) → slice_get p.objects k ≡ Some o → IsWellNamed o
+  pub texts : (k : ℕ) (o : DeclaredObject) → slice_get p.objects k ≡ Some o → FormHasTexts o.form
+  pub named : (k : ℕ) (o : DeclaredObject) → slice_get p.objects k ≡ Some o → IsWellNamed o
 
 -- what the table has of a name is what its form declares
-pub entry_is : (p : Package) (known : Names) → Told p known → (k : ℕ) (x : List ℕ) (e : Declared) → slice_get known k ≡ Some (x, Some e) → (o : Object) → slice_get p.objects k ≡ Some o
+pub entry_is : (p : PackageTable) (known : Names) → Told p known → (k : ℕ) (x : List ℕ) (e : Declared) → slice_get known k ≡ Some (x, Some e) → (o : DeclaredObject) → slice_get p.objects k ≡ Some o
     → (x ≡ o.name.text) × (object_verdict p known o ≡ Fine (declared e))
 entry_is p known h k x e at o there =
     let is = h.table.grounded k o there (h.grounded k) in
@@ -112,13 +112,13 @@ length_mapped f [] = refl
 length_mapped f (x ∷ xs) = ap suc (length_mapped f xs)
 
 -- each entry is that of an object
-pub object_of : (p : Package) (known : Names) → Told p known → (k : ℕ) (x : List ℕ) (e : Declared) → slice_get known k ≡ Some (x, Some e) → (o : Object) × (slice_get p.objects k ≡ Some o)
+pub object_of : (p : PackageTable) (known : Names) → Told p known → (k : ℕ) (x : List ℕ) (e : Declared) → slice_get known k ≡ Some (x, Some e) → (o : DeclaredObject) × (slice_get p.objects k ≡ Some o)
 object_of p known h k x e at =
     let lt = within known k (x, Some e) at in
-    let as_many : length known ≡ length p.objects = sym (length_mapped (λ n. n.0) known) ∙ ap length h.table.named ∙ length_mapped (λ (o : Object). o.name.text) p.objects in
+    let as_many : length known ≡ length p.objects = sym (length_mapped (λ n. n.0) known) ∙ ap length h.table.named ∙ length_mapped (λ (o : DeclaredObject). o.name.text) p.objects in
     some_there p.objects k (omega (arith, lt, as_many))
 
-module _ (expected : Expected) (w : Table) (g : Setting) (d : List ℕ) (p : Package) (known : Names) (h : Told p known) where
+module _ (expected : Expected) (w : Table) (g : Setting) (d : List ℕ) (p : PackageTable) (known : Names) (h : Told p known) where
   module _ (plain : w.plain p.path ≡ true) (imported : (file : ℕ) → AllImports w g d (imports_at p file)) (linked : (k : ℕ) (x : List ℕ) (e : Declared) → slice_get known k ≡ Some (x, Some e) → IsLinked w g e) where
     object_sound : (n k : ℕ) → GroundedIn (rows p) n k → (x : List ℕ) (e : Declared) → slice_get known k ≡ Some (x, Some e) → IsSoundOwn w g d e
     object_sound zero k gr x e at = absurd gr

@@ -1,7 +1,7 @@
 -- Source trees whose string literals are texts: bytes, no more than an int counts. The names of fields are words.
 use Rattle.std.specs.Prelude.{◌≡◌, true, List, [], ◌∷◌}
 use Rattle.go_scan.specs.Words.{IsWord}
-use Rattle.go_ast.specs.Trees.{Name, TypeExpr, named, qualified, array, slice, struct, Fields, no_fields, field, Expr, name, integer, rune, string, parenthesized, composite_lit, conversion, selector, index, cut, Bound, no_bound, bound, call, type_operand, unary, binary, Exprs, no_exprs, some_exprs, Elements, no_elements, element, Element, expression_element, value_element}
+use Rattle.go_ast.specs.Trees.{Name, TypeExpr, named, qualified, array, slice, struct, FieldDecls, no_fields, field, Expression, name, integer, rune, string, parenthesized, composite_lit, conversion, selector, index, cut, Bound, no_bound, bound, call, type_operand, unary, binary, ExpressionList, no_exprs, some_exprs, Elements, no_elements, element, Element, expression_element, value_element}
 use Rattle.go_meaning_laws.specs.WellTyped.{is_text}
 
 -- names are words
@@ -10,7 +10,7 @@ AreWords [] = Unit {0}
 AreWords (n ∷ ns) = IsWord n.text × AreWords ns
 
 abbrev mutual
-  pub HasTexts : Expr → Type 0
+  pub HasTexts : Expression → Type 0
   HasTexts (name p x) = Unit {0}
   HasTexts (integer p text) = Unit {0}
   HasTexts (rune p z) = Unit {0}
@@ -30,7 +30,7 @@ abbrev mutual
   BoundHasTexts no_bound = Unit {0}
   BoundHasTexts (bound e) = HasTexts e
 
-  pub HaveTexts : Exprs → Type 0
+  pub HaveTexts : ExpressionList → Type 0
   HaveTexts no_exprs = Unit {0}
   HaveTexts (some_exprs e es) = HasTexts e × HaveTexts es
 
@@ -49,6 +49,6 @@ abbrev mutual
   TypeHasTexts (slice p t) = TypeHasTexts t
   TypeHasTexts (struct p fs) = FieldsHaveTexts fs
 
-  pub FieldsHaveTexts : Fields → Type 0
+  pub FieldsHaveTexts : FieldDecls → Type 0
   FieldsHaveTexts no_fields = Unit {0}
   FieldsHaveTexts (field names t fs) = TypeHasTexts t × FieldsHaveTexts fs × AreWords names

@@ -12,10 +12,10 @@ use Rattle.go_types.specs.declared.types.Untyped.{Untyped}
 use Rattle.go_types.specs.declared.types.Untyped.TheVariants as kinds
 use Rattle.go_types.specs.Types.{Type', basic, array, slice, struct, named, Fields, no_fields, field}
 use Rattle.go_types.specs.Texts.{basic_text}
-use Rattle.go_types.specs.Relations.{underlying, identical, all_identical, is_literal, fits, assignable, are_integers, convertible}
+use Rattle.go_types.specs.Relations.{underlying, identical, all_identical, is_literal, kind_fits, assignable, are_integers, convertible}
 use Rattle.go_types.specs.Sizes.{cells}
 use Rattle.go_meaning.specs.Meaning.{most_cells}
-use Rattle.go_meaning_laws.specs.WellTyped.{IsWhole, AreWhole, is_typed, is_bool, is_integer}
+use Rattle.go_meaning_laws.specs.WellTyped.{IsWhole, AreWhole, is_typed, is_bool_type, is_integer_type}
 use Rattle.go_package_laws.proofs.Soundness.{Table, IsSoundType, AreSoundFields}
 
 -- the basic type of a name
@@ -164,7 +164,7 @@ no_literal_untyped : (w : Table) (t : Type') (k : Untyped) → IsSoundType w t �
 no_literal_untyped w t k h e = not_identical w (underlying t) k (sound_underlying w t h) e
 
 -- a value of a sound type fits no type by its kind
-no_fit : (w : Table) (t u : Type') → IsSoundType w t → fits t u ≡ true → ⊥
+no_fit : (w : Table) (t u : Type') → IsSoundType w t → kind_fits t u ≡ true → ⊥
 no_fit w (basic basics.Bool) u h e = true≢false (sym e)
 no_fit w (basic basics.String) u h e = true≢false (sym e)
 no_fit w (basic (basics.Integer i)) u h e = true≢false (sym e)
@@ -179,7 +179,7 @@ same_underlying w t u h k e = identical_same w (underlying t) (underlying u) (so
 
 -- a value of a sound type that may be assigned to another has its underlying type
 pub assignable_suits : (w : Table) (t u : Type') → IsSoundType w t → IsSoundType w u → assignable t u ≡ true → underlying t ≡ underlying u
-assignable_suits w t u h k e = elim (or_cases (identical t u || (is_literal t || is_literal u) && identical (underlying t) (underlying u)) (fits t (underlying u)) e) [
+assignable_suits w t u h k e = elim (or_cases (identical t u || (is_literal t || is_literal u) && identical (underlying t) (underlying u)) (kind_fits t (underlying u)) e) [
   | inr fit ↦ absurd (no_fit w t (underlying u) h fit)
   | inl rest ↦ elim (or_cases (identical t u) ((is_literal t || is_literal u) && identical (underlying t) (underlying u)) rest) [
     | inl same ↦ ap underlying (identical_same w t u h k same)
@@ -189,7 +189,7 @@ assignable_suits w t u h k e = elim (or_cases (identical t u || (is_literal t ||
 
 -- it may not be assigned to a type that has none
 pub not_assignable : (w : Table) (t : Type') (k : Untyped) → IsSoundType w t → assignable t (basic (basics.Untyped k)) ≡ true → ⊥
-not_assignable w t k h e = elim (or_cases (identical t (basic (basics.Untyped k)) || (is_literal t || is_literal (basic (basics.Untyped k))) && identical (underlying t) (basic (basics.Untyped k))) (fits t (basic (basics.Untyped k))) e) [
+not_assignable w t k h e = elim (or_cases (identical t (basic (basics.Untyped k)) || (is_literal t || is_literal (basic (basics.Untyped k))) && identical (underlying t) (basic (basics.Untyped k))) (kind_fits t (basic (basics.Untyped k))) e) [
   | inr fit ↦ no_fit w t (basic (basics.Untyped k)) h fit
   | inl rest ↦ elim (or_cases (identical t (basic (basics.Untyped k))) ((is_literal t || is_literal (basic (basics.Untyped k))) && identical (underlying t) (basic (basics.Untyped k))) rest) [
     | inl same ↦ not_identical w t k h same
@@ -200,7 +200,7 @@ not_assignable w t k h e = elim (or_cases (identical t (basic (basics.Untyped k)
 -- what converts has the same underlying type, or both are integer types
 pub convertible_same : (w : Table) (t u : Type') → IsSoundType w t → IsSoundType w u → convertible t u ≡ true →
     (underlying t ≡ underlying u) ⊎ (are_integers (underlying t) (underlying u) ≡ true)
-convertible_same w t u h k e = elim (or_cases (identical (underlying t) (underlying u) || are_integers (underlying t) (underlying u)) (fits t (underlying u)) e) [
+convertible_same w t u h k e = elim (or_cases (identical (underlying t) (underlying u) || are_integers (underlying t) (underlying u)) (kind_fits t (underlying u)) e) [
   | inr fit ↦ absurd (no_fit w t (underlying u) h fit)
   | inl rest ↦ elim (or_cases (identical (underlying t) (underlying u)) (are_integers (underlying t) (underlying u)) rest) [
     | inl same ↦ inl (same_underlying w t u h k same)
@@ -208,7 +208,7 @@ convertible_same w t u h k e = elim (or_cases (identical (underlying t) (underly
   ]
 ]
 
-pub both_integers : (t u : Type') → are_integers t u ≡ true → (is_integer t ≡ true) × (is_integer u ≡ true)
+pub both_integers : (t u : Type') → are_integers t u ≡ true → (is_integer_type t ≡ true) × (is_integer_type u ≡ true)
 both_integers (basic (basics.Integer i)) (basic (basics.Integer j)) e = (refl, refl)
 both_integers t u e = absurd (true≢false (sym e))
 
@@ -222,10 +222,10 @@ not_identical_to w (struct fs) k h e = true≢false (sym e)
 not_identical_to w (named p x t) k h e = true≢false (sym e)
 
 -- a value without type that may be assigned to a sound type has a kind that fits it
-pub untyped_fits : (w : Table) (k : Untyped) (t : Type') → IsSoundType w t → assignable (basic (basics.Untyped k)) t ≡ true → fits (basic (basics.Untyped k)) (underlying t) ≡ true
+pub untyped_fits : (w : Table) (k : Untyped) (t : Type') → IsSoundType w t → assignable (basic (basics.Untyped k)) t ≡ true → kind_fits (basic (basics.Untyped k)) (underlying t) ≡ true
 untyped_fits w k t h e =
     let v = basic (basics.Untyped k) in
-    elim (or_cases (identical v t || (is_literal v || is_literal t) && identical v (underlying t)) (fits v (underlying t)) e) [
+    elim (or_cases (identical v t || (is_literal v || is_literal t) && identical v (underlying t)) (kind_fits v (underlying t)) e) [
       | inr fit ↦ fit
       | inl rest ↦ elim (or_cases (identical v t) ((is_literal v || is_literal t) && identical v (underlying t)) rest) [
         | inl same ↦ absurd (not_identical_to w t k h same)
@@ -233,10 +233,10 @@ untyped_fits w k t h e =
       ]
     ]
 
-pub untyped_converts : (w : Table) (k : Untyped) (t : Type') → IsSoundType w t → convertible (basic (basics.Untyped k)) t ≡ true → fits (basic (basics.Untyped k)) (underlying t) ≡ true
+pub untyped_converts : (w : Table) (k : Untyped) (t : Type') → IsSoundType w t → convertible (basic (basics.Untyped k)) t ≡ true → kind_fits (basic (basics.Untyped k)) (underlying t) ≡ true
 untyped_converts w k t h e =
     let v = basic (basics.Untyped k) in
-    elim (or_cases (identical v (underlying t) || are_integers v (underlying t)) (fits v (underlying t)) e) [
+    elim (or_cases (identical v (underlying t) || are_integers v (underlying t)) (kind_fits v (underlying t)) e) [
       | inr fit ↦ fit
       | inl rest ↦ elim (or_cases (identical v (underlying t)) (are_integers v (underlying t)) rest) [
         | inl same ↦ absurd (not_identical_to w (underlying t) k (sound_underlying w t h) same)
@@ -244,11 +244,11 @@ untyped_converts w k t h e =
       ]
     ]
 
-truth_below : (u : Type') → fits untyped_bool u ≡ true → is_bool u ≡ true
+truth_below : (u : Type') → kind_fits untyped_bool u ≡ true → is_bool_type u ≡ true
 truth_below (basic basics.Bool) f = refl
 truth_below u f = absurd (true≢false (sym f))
 
-pub fits_truth : (t : Type') → fits untyped_bool (underlying t) ≡ true → is_bool (underlying t) ≡ true
+pub fits_truth : (t : Type') → kind_fits untyped_bool (underlying t) ≡ true → is_bool_type (underlying t) ≡ true
 fits_truth t f = truth_below (underlying t) f
 
 -- ---- each type is identical to itself
@@ -277,5 +277,5 @@ mutual
 
 pub assignable_itself : (t : Type') → assignable t t ≡ true
 assignable_itself t =
-    or_left (identical t t || (is_literal t || is_literal t) && identical (underlying t) (underlying t)) (fits t (underlying t))
+    or_left (identical t t || (is_literal t || is_literal t) && identical (underlying t) (underlying t)) (kind_fits t (underlying t))
     (or_left (identical t t) ((is_literal t || is_literal t) && identical (underlying t) (underlying t)) (identical_itself t))

@@ -10,13 +10,13 @@ use Rattle.go_ast.specs.Trees as source
 use Rattle.go_types.specs.declared.types.Basic.{Basic}
 use Rattle.go_types.specs.declared.types.Basic.TheVariants as basics
 use Rattle.go_types.specs.Types.{Type', basic, array, slice, struct, named}
-use Rattle.go_types.specs.Relations.{underlying, identical, is_literal, fits, assignable}
-use Rattle.go_typed.specs.Trees.{Symbol, Expr, expr_type, Exprs, Source, each, results, pack_exprs}
-use Rattle.go_meaning_laws.specs.WellTyped.{Setting, is_typed, Suits, IsExpr, AreExprs, exprs_types, IsCall, IsSource, source_types}
+use Rattle.go_types.specs.Relations.{underlying, identical, is_literal, kind_fits, assignable}
+use Rattle.go_typed.specs.Trees.{Symbol, Expr, expr_type, Exprs, ValueSource, each, results, pack_exprs}
+use Rattle.go_meaning_laws.specs.WellTyped.{Setting, is_typed, Suits, IsExpr, AreWellTypedExprs, exprs_types, IsCall, IsWellTypedSource, source_types}
 use Rattle.go_expr.specs.Known.{Known, Scope, Verdict, Fine, Breaks, Passed, declared, package', results as call_results, printed, panicked}
-use Rattle.go_expr.specs.Rules.{fine, checked, wrong, least, lesser, each_unless, assigned, default_type, lies_in, value_due}
+use Rattle.go_expr.specs.Rules.{fine, checked, wrong, least, lesser_fault, fine_list, assigned, default_type, lies_in, value_due}
 use Rattle.go_expr.specs.Verdicts.{asked, operand, verdict}
-use Rattle.go_stmt.specs.Rules.{all_some, Values, separate, together, no_values, values_of, suited_one, takes, suited}
+use Rattle.go_stmt.specs.Rules.{all_some, AssignedValues, separate, together, no_values, values_of, suited_one, takes, suited}
 use Rattle.go_stmt.specs.Statements.{each_of, values_known}
 use Rattle.go_package_laws.proofs.Soundness.{Table, IsSoundType, AreSoundTypes, IsSoundValue}
 use Rattle.go_package_laws.proofs.SoundNames.{IsSoundKnown, IsSoundScope}
@@ -25,13 +25,13 @@ use Rattle.go_package_laws.proofs.Expected.{Expected}
 
 -- ---- assignable types
 
-typed_fits : (b : Basic) (t : Type') → is_typed b ≡ true → fits (basic b) t ≡ false
+typed_fits : (b : Basic) (t : Type') → is_typed b ≡ true → kind_fits (basic b) t ≡ false
 typed_fits basics.Bool t h = refl
 typed_fits basics.String t h = refl
 typed_fits (basics.Integer i) t h = refl
 typed_fits (basics.Untyped k) t h = absurd (true≢false (sym h))
 
-pub no_fit : (w : Table) (u t : Type') → IsSoundType w u → fits u t ≡ false
+pub no_fit : (w : Table) (u t : Type') → IsSoundType w u → kind_fits u t ≡ false
 no_fit w (basic b) t h = typed_fits b t h
 no_fit w (array n u) t h = refl
 no_fit w (slice u) t h = refl
@@ -45,7 +45,7 @@ sound_under w (slice t) h = h
 sound_under w (struct fs) h = h
 sound_under w (named p x t) h = sound_under w t h.1
 
-suits_by : (x : Expected) (w : Table) (u t : Type') → IsSoundType w u → IsSoundType w t → (same literal below fit : Bool) → identical u t ≡ same → (is_literal u || is_literal t) ≡ literal → identical (underlying u) (underlying t) ≡ below → fits u (underlying t) ≡ fit
+suits_by : (x : Expected) (w : Table) (u t : Type') → IsSoundType w u → IsSoundType w t → (same literal below fit : Bool) → identical u t ≡ same → (is_literal u || is_literal t) ≡ literal → identical (underlying u) (underlying t) ≡ below → kind_fits u (underlying t) ≡ fit
     → assignable u t ≡ true → Suits u t
 suits_by x w u t h k true literal below fit a b c d e = ap underlying (x.identical_same w u t h k a)
 suits_by x w u t h k false literal true fit a b c d e = x.identical_same w (underlying u) (underlying t) (sound_under w u h) (sound_under w t k) c
@@ -54,26 +54,26 @@ suits_by x w u t h k false true false false a b c d e = absurd (let r : assignab
 suits_by x w u t h k false false false false a b c d e = absurd (let r : assignable u t ≡ false = rw (a, b, d) refl in cc)
 
 pub suits : (x : Expected) (w : Table) (u t : Type') → IsSoundType w u → IsSoundType w t → assignable u t ≡ true → Suits u t
-suits x w u t h k e = suits_by x w u t h k (identical u t) (is_literal u || is_literal t) (identical (underlying u) (underlying t)) (fits u (underlying t)) refl refl refl refl e
+suits x w u t h k e = suits_by x w u t h k (identical u t) (is_literal u || is_literal t) (identical (underlying u) (underlying t)) (kind_fits u (underlying t)) refl refl refl refl e
 
 -- ---- verdicts on several
 
-some_least : (k : FaultKind) (o : Option FaultKind) → lesser (Some k) o ≢ None
+some_least : (k : FaultKind) (o : Option FaultKind) → lesser_fault (Some k) o ≢ None
 some_least k None h = cc
 some_least k (Some l) h = elim (cases_Bool (nat_le (fault_number k) (fault_number l))) [
-  | inl is ↦ (let r : lesser (Some k) (Some l) ≡ Some k = rw is refl in cc)
-  | inr not_so ↦ (let r : lesser (Some k) (Some l) ≡ Some l = rw not_so refl in cc)
+  | inl is ↦ (let r : lesser_fault (Some k) (Some l) ≡ Some k = rw is refl in cc)
+  | inr not_so ↦ (let r : lesser_fault (Some k) (Some l) ≡ Some l = rw not_so refl in cc)
 ]
 
 none_least : (ks : List FaultKind) → least ks ≡ None → ks ≡ []
 none_least [] h = refl
 none_least (k ∷ ks) h = absurd (some_least k (least ks) h)
 
-each_by : {A : Type 0} (vs : List (Verdict A)) (xs : List A) (o : Option FaultKind) → least (flat_map wrong vs) ≡ o → each_unless [] vs ≡ Fine xs → (flat_map wrong vs ≡ []) × (filter_map fine vs ≡ xs)
-each_by vs xs None at h = (none_least (flat_map wrong vs) at, (let r : each_unless [] vs ≡ Fine (filter_map fine vs) = rw (at, each_unless) refl in cc))
-each_by vs xs (Some k) at h = absurd (let r : each_unless [] vs ≡ Breaks k = rw (at, each_unless) refl in cc)
+each_by : {A : Type 0} (vs : List (Verdict A)) (xs : List A) (o : Option FaultKind) → least (flat_map wrong vs) ≡ o → fine_list [] vs ≡ Fine xs → (flat_map wrong vs ≡ []) × (filter_map fine vs ≡ xs)
+each_by vs xs None at h = (none_least (flat_map wrong vs) at, (let r : fine_list [] vs ≡ Fine (filter_map fine vs) = rw (at, fine_list) refl in cc))
+each_by vs xs (Some k) at h = absurd (let r : fine_list [] vs ≡ Breaks k = rw (at, fine_list) refl in cc)
 
-pub each_fine : {A : Type 0} (vs : List (Verdict A)) (xs : List A) → each_unless [] vs ≡ Fine xs → (flat_map wrong vs ≡ []) × (filter_map fine vs ≡ xs)
+pub each_fine : {A : Type 0} (vs : List (Verdict A)) (xs : List A) → fine_list [] vs ≡ Fine xs → (flat_map wrong vs ≡ []) × (filter_map fine vs ≡ xs)
 each_fine vs xs h = each_by vs xs (least (flat_map wrong vs)) refl h
 
 pub checked_part : {A B : Type 0} (rule : A → Verdict B) (v : Verdict A) (y : B) → checked rule v ≡ Fine y → (x : A) × (v ≡ Fine x) × (rule x ≡ Fine y)
@@ -111,7 +111,7 @@ front_fine Passed vs a h = absurd a
 -- ---- what values are, and what they are due for
 
 -- the types that values have where none is due
-abbrev pub own_types : Values → List Type'
+abbrev pub own_types : AssignedValues → List Type'
 own_types (separate es) = map (λ e. default_type (expr_type e)) es
 own_types (together ts f es) = ts
 own_types no_values = []
@@ -133,40 +133,40 @@ module _ (x : Expected) (w : Table) (g : Setting) where
   AllSoundValues d [] = Unit {0}
   AllSoundValues d (e ∷ es) = IsSoundValue w g d e × AllSoundValues d es
 
-  abbrev pub AreSoundValues : List ℕ → Values → Type 0
+  abbrev pub AreSoundValues : List ℕ → AssignedValues → Type 0
   AreSoundValues d (separate es) = AllSoundValues d es
-  AreSoundValues d (together ts f es) = AreExprs g d es × IsCall g f (exprs_types es) ts × AreSoundTypes w ts
+  AreSoundValues d (together ts f es) = AreWellTypedExprs g d es × IsCall g f (exprs_types es) ts × AreSoundTypes w ts
   AreSoundValues d no_values = Unit {0}
 
-  one_value : (d : List ℕ) (k : Known) → IsSoundKnown w g d k → (v : Values) → checked (λ e. Fine (separate (e ∷ []))) (value_due k) ≡ Fine v → AreSoundValues d v
+  one_value : (d : List ℕ) (k : Known) → IsSoundKnown w g d k → (v : AssignedValues) → checked (λ e. Fine (separate (e ∷ []))) (value_due k) ≡ Fine v → AreSoundValues d v
   one_value d k h v is =
       let part = checked_part (λ e. Fine (separate (e ∷ []))) (value_due k) v is in
       let same : separate (part.0 ∷ []) ≡ v = cc in
       subst (AreSoundValues d) same (x.sound_value_due w g d k h part.0 part.1, tt)
 
-  pub sound_values_of : (d : List ℕ) (k : Known) → IsSoundKnown w g d k → (v : Values) → values_of k ≡ Fine v → AreSoundValues d v
+  pub sound_values_of : (d : List ℕ) (k : Known) → IsSoundKnown w g d k → (v : AssignedValues) → values_of k ≡ Fine v → AreSoundValues d v
   sound_values_of d (call_results ts f es) h v is = (let same : together ts f es ≡ v = cc in subst (AreSoundValues d) same h)
   sound_values_of d (panicked e) h v is = (let same : no_values ≡ v = cc in subst (AreSoundValues d) same tt)
   sound_values_of d (declared k) h v is = one_value d (declared k) h v is
   sound_values_of d (package' names) h v is = one_value d (package' names) h v is
   sound_values_of d (printed es) h v is = one_value d (printed es) h v is
 
-  pub all_operands : (d : List ℕ) (s : Scope) → IsSoundScope w g d s → (es : source.Exprs) → HaveTexts es → (xs : List Expr) → all_some (each_of (λ e. operand (verdict s e)) es) ≡ Some xs → AllSoundValues d xs
+  pub all_operands : (d : List ℕ) (s : Scope) → IsSoundScope w g d s → (es : source.ExpressionList) → HaveTexts es → (xs : List Expr) → all_some (each_of (λ e. operand (verdict s e)) es) ≡ Some xs → AllSoundValues d xs
   all_operands d s h source.no_exprs texts xs is = (let same : [] ≡ xs = cc in subst (AllSoundValues d) same tt)
   all_operands d s h (source.some_exprs e es) texts xs is =
       let part = some_part (operand (verdict s e)) (each_of (λ e. operand (verdict s e)) es) xs is in
       subst (AllSoundValues d) (sym part.4) (x.sound_operand w g d s e h texts.0 part.0 part.2, all_operands d s h es texts.1 part.1 part.3)
 
-  mapped_values : (d : List ℕ) (o : Option (List Expr)) (v : Values) → ((xs : List Expr) → o ≡ Some xs → AllSoundValues d xs) → option_map separate o ≡ Some v → AreSoundValues d v
+  mapped_values : (d : List ℕ) (o : Option (List Expr)) (v : AssignedValues) → ((xs : List Expr) → o ≡ Some xs → AllSoundValues d xs) → option_map separate o ≡ Some v → AreSoundValues d v
   mapped_values d None v h is = absurd cc
   mapped_values d (Some xs) v h is = (let same : separate xs ≡ v = cc in subst (AreSoundValues d) same (h xs refl))
 
-  alone_value : (d : List ℕ) (o : Verdict Known) (v : Values) → ((k : Known) → o ≡ Fine k → IsSoundKnown w g d k) → fine (asked values_of (fine o)) ≡ Some v → AreSoundValues d v
+  alone_value : (d : List ℕ) (o : Verdict Known) (v : AssignedValues) → ((k : Known) → o ≡ Fine k → IsSoundKnown w g d k) → fine (asked values_of (fine o)) ≡ Some v → AreSoundValues d v
   alone_value d (Fine k) v h is = sound_values_of d k (h k refl) v (elim (values_of k) as (λ r. fine r ≡ Some v → r ≡ Fine v) [ Fine y ↦ λ q. cc | _ ↦ λ q. cc ] is)
   alone_value d (Breaks k) v h is = absurd cc
   alone_value d Passed v h is = absurd cc
 
-  pub sound_values : (d : List ℕ) (s : Scope) → IsSoundScope w g d s → (es : source.Exprs) → HaveTexts es → (v : Values) → values_known s es ≡ Some v → AreSoundValues d v
+  pub sound_values : (d : List ℕ) (s : Scope) → IsSoundScope w g d s → (es : source.ExpressionList) → HaveTexts es → (v : AssignedValues) → values_known s es ≡ Some v → AreSoundValues d v
   sound_values d s h source.no_exprs texts v is = (let same : separate [] ≡ v = cc in subst (AreSoundValues d) same tt)
   sound_values d s h (source.some_exprs e source.no_exprs) texts v is = alone_value d (verdict s e) v (λ k at. x.sound_known w g d s e h texts.0 k at) is
   sound_values d s h (source.some_exprs e (source.some_exprs f es)) texts v is =
@@ -184,7 +184,7 @@ module _ (x : Expected) (w : Table) (g : Setting) where
   rest_due (Some t) os h = h.1
 
   all_suited : (d : List ℕ) (due : List (Option Type')) (es : List Expr) → length due ≡ length es → SoundDue w due → AllSoundValues d es → flat_map wrong (map suited_one (zip due es)) ≡ []
-      → AreExprs g d (pack_exprs (filter_map fine (map suited_one (zip due es)))) × AreDue w due (map (λ e. default_type (expr_type e)) es) (exprs_types (pack_exprs (filter_map fine (map suited_one (zip due es)))))
+      → AreWellTypedExprs g d (pack_exprs (filter_map fine (map suited_one (zip due es)))) × AreDue w due (map (λ e. default_type (expr_type e)) es) (exprs_types (pack_exprs (filter_map fine (map suited_one (zip due es)))))
   all_suited d [] [] same due h none = (tt, tt)
   all_suited d [] (e ∷ es) same due h none = absurd (omega (arith, same))
   all_suited d (o ∷ os) [] same due h none = absurd (omega (arith, same))
@@ -193,7 +193,7 @@ module _ (x : Expected) (w : Table) (g : Setting) where
       let front = front_fine (suited_one (o, e)) vs (suited_asked o e) none in
       let rest = all_suited d os es (omega (arith, same)) (rest_due o os due) h.1 front.2 in
       let one = one_suits d o os e (map (λ e. default_type (expr_type e)) es) (exprs_types (pack_exprs (filter_map fine vs))) due h.0 front.0 front.1 rest.1 in
-      subst (λ (l : List Expr). AreExprs g d (pack_exprs l) × AreDue w (o ∷ os) (default_type (expr_type e) ∷ map (λ e. default_type (expr_type e)) es) (exprs_types (pack_exprs l))) (sym front.3)
+      subst (λ (l : List Expr). AreWellTypedExprs g d (pack_exprs l) × AreDue w (o ∷ os) (default_type (expr_type e) ∷ map (λ e. default_type (expr_type e)) es) (exprs_types (pack_exprs l))) (sym front.3)
       ((one.0, rest.0), one.1)
 
   all_taken : (due : List (Option Type')) (ts : List Type') → length due ≡ length ts → SoundDue w due → AreSoundTypes w ts → list_all takes (zip due ts) ≡ true → AreDue w due ts ts
@@ -206,28 +206,28 @@ module _ (x : Expected) (w : Table) (g : Setting) where
     | inr unfit ↦ absurd (let r : list_all takes ((Some u, t) ∷ zip os ts) ≡ false = rw unfit refl in cc)
   ]
 
-  separate_suited : (d : List ℕ) (due : List (Option Type')) (es : List Expr) (s : Source) (b : Bool) → nat_eq (length due) (length es) ≡ b → SoundDue w due → AllSoundValues d es → suited due (separate es) ≡ Fine s
-      → IsSource g d s × AreDue w due (own_types (separate es)) (source_types s)
+  separate_suited : (d : List ℕ) (due : List (Option Type')) (es : List Expr) (s : ValueSource) (b : Bool) → nat_eq (length due) (length es) ≡ b → SoundDue w due → AllSoundValues d es → suited due (separate es) ≡ Fine s
+      → IsWellTypedSource g d s × AreDue w due (own_types (separate es)) (source_types s)
   separate_suited d due es s false at sound h is = absurd (let r : suited due (separate es) ≡ Breaks Count = rw at refl in cc)
   separate_suited d due es s true at sound h is =
-      let r : suited due (separate es) ≡ checked (λ es. Fine (each (pack_exprs es))) (each_unless [] (map suited_one (zip due es))) = rw at refl in
-      let part = checked_part (λ es. Fine (each (pack_exprs es))) (each_unless [] (map suited_one (zip due es))) s (sym r ∙ is) in
+      let r : suited due (separate es) ≡ checked (λ es. Fine (each (pack_exprs es))) (fine_list [] (map suited_one (zip due es))) = rw at refl in
+      let part = checked_part (λ es. Fine (each (pack_exprs es))) (fine_list [] (map suited_one (zip due es))) s (sym r ∙ is) in
       let made = each_fine (map suited_one (zip due es)) part.0 part.1 in
       let all = all_suited d due es (eqb-true (length due) (length es) at) sound h made.0 in
       let same : each (pack_exprs (filter_map fine (map suited_one (zip due es)))) ≡ s = ap (λ l. each (pack_exprs l)) made.1 ∙ (let k : each (pack_exprs part.0) ≡ s = cc in k) in
-      subst (λ (s : Source). IsSource g d s × AreDue w due (own_types (separate es)) (source_types s)) same all
+      subst (λ (s : ValueSource). IsWellTypedSource g d s × AreDue w due (own_types (separate es)) (source_types s)) same all
 
-  together_suited : (d : List ℕ) (due : List (Option Type')) (ts : List Type') (f : Symbol) (es : Exprs) (s : Source) (a b c : Bool) → nat_eq (length ts) 0 ≡ a → nat_eq (length due) (length ts) ≡ b → list_all takes (zip due ts) ≡ c
-      → SoundDue w due → AreSoundValues d (together ts f es) → suited due (together ts f es) ≡ Fine s → IsSource g d s × AreDue w due ts (source_types s)
+  together_suited : (d : List ℕ) (due : List (Option Type')) (ts : List Type') (f : Symbol) (es : Exprs) (s : ValueSource) (a b c : Bool) → nat_eq (length ts) 0 ≡ a → nat_eq (length due) (length ts) ≡ b → list_all takes (zip due ts) ≡ c
+      → SoundDue w due → AreSoundValues d (together ts f es) → suited due (together ts f es) ≡ Fine s → IsWellTypedSource g d s × AreDue w due ts (source_types s)
   together_suited d due ts f es s true b c p q r sound h is = absurd (let z : suited due (together ts f es) ≡ Breaks Count = rw p refl in cc)
   together_suited d due ts f es s false false c p q r sound h is = absurd (let z : suited due (together ts f es) ≡ Breaks Count = rw (p, q) refl in cc)
   together_suited d due ts f es s false true false p q r sound h is = absurd (let z : suited due (together ts f es) ≡ Breaks Assign = rw (p, q, r) refl in cc)
   together_suited d due ts f es s false true true p q r sound h is =
       let z : suited due (together ts f es) ≡ Fine (results ts f es) = rw (p, q, r) refl in
       let same : results ts f es ≡ s = cc in
-      subst (λ (s : Source). IsSource g d s × AreDue w due ts (source_types s)) same ((h.0, h.1), all_taken due ts (eqb-true (length due) (length ts) q) sound h.2 r)
+      subst (λ (s : ValueSource). IsWellTypedSource g d s × AreDue w due ts (source_types s)) same ((h.0, h.1), all_taken due ts (eqb-true (length due) (length ts) q) sound h.2 r)
 
-  pub sound_suited : (d : List ℕ) (due : List (Option Type')) (v : Values) (s : Source) → SoundDue w due → AreSoundValues d v → suited due v ≡ Fine s → IsSource g d s × AreDue w due (own_types v) (source_types s)
+  pub sound_suited : (d : List ℕ) (due : List (Option Type')) (v : AssignedValues) (s : ValueSource) → SoundDue w due → AreSoundValues d v → suited due v ≡ Fine s → IsWellTypedSource g d s × AreDue w due (own_types v) (source_types s)
   sound_suited d due (separate es) s sound h is = separate_suited d due es s (nat_eq (length due) (length es)) refl sound h is
   sound_suited d due (together ts f es) s sound h is = together_suited d due ts f es s (nat_eq (length ts) 0) (nat_eq (length due) (length ts)) (list_all takes (zip due ts)) refl refl refl sound h is
   sound_suited d due no_values s sound h is = absurd cc

@@ -1,9 +1,9 @@
 -- Functions without fault are well typed, where names outside of them are sound.
 use Rattle.std.specs.Prelude.{◌≡◌, false, List, [], Some}
-use Rattle.go_ast.specs.Trees.{Function}
+use Rattle.go_ast.specs.Trees.{FunctionDecl}
 use Rattle.go_typed.specs.Trees as typed
 use Rattle.go_typed.specs.Trees.{Package}
-use Rattle.go_meaning_laws.specs.WellTyped.{IsFunction}
+use Rattle.go_meaning_laws.specs.WellTyped.{IsWellTypedFunction}
 use Rattle.go_stmt.specs.Scopes.{Context, nothing}
 use Rattle.go_stmt.specs.Functions.{parameters_at, results_at, function_at}
 use Rattle.go_package_laws.proofs.Soundness.{Table, AreSoundTypes}
@@ -30,12 +30,12 @@ expected = record {
 }
 
 -- a function's tree is well typed, has the types of its declaration, which are sound, and its name
-pub function_sound : (w : Table) (packages : List Package) (c : Context) (f : Function) → c.breaks ≡ false → c.continues ≡ false → SoundOutside expected w packages c → SoundPackageVariables expected w packages → FunctionHasTexts f → (function_at c f).faults ≡ []
+pub function_sound : (w : Table) (packages : List Package) (c : Context) (f : FunctionDecl) → c.breaks ≡ false → c.continues ≡ false → SoundOutside expected w packages c → SoundPackageVariables expected w packages → FunctionHasTexts f → (function_at c f).faults ≡ []
     → (y : typed.Function) → (function_at c f).known ≡ Some y
-    → IsFunction packages y × ((parameters_at c f.parameters nothing).known ≡ Some y.parameters) × ((results_at c f.results nothing).known ≡ Some y.results) × AreSoundTypes w y.parameters × AreSoundTypes w y.results × (y.name ≡ f.name.text)
+    → IsWellTypedFunction packages y × ((parameters_at c f.parameters nothing).known ≡ Some y.parameters) × ((results_at c f.results nothing).known ≡ Some y.results) × AreSoundTypes w y.parameters × AreSoundTypes w y.results × (y.name ≡ f.name.text)
 function_sound w packages c f breaks continues outside variables texts none y is = sound_function expected w packages c f breaks continues outside variables texts none y is
 
 -- types of its signature are sound, whatever package variables have
-pub signature_sound : (w : Table) (packages : List Package) (c : Context) (f : Function) → SoundOutside expected w packages c → FunctionHasTexts f → (y : typed.Function) → (function_at c f).known ≡ Some y
+pub signature_sound : (w : Table) (packages : List Package) (c : Context) (f : FunctionDecl) → SoundOutside expected w packages c → FunctionHasTexts f → (y : typed.Function) → (function_at c f).known ≡ Some y
     → AreSoundTypes w y.parameters × AreSoundTypes w y.results
 signature_sound w packages c f outside texts y is = sound_signature expected w packages c f outside texts y is

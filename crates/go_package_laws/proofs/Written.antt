@@ -3,7 +3,7 @@ use Rattle.std.proofs.Common.{◌≡◌, Bool, true, false, List, [], ◌∷◌,
 use Rattle.go_text.specs.declared.edition.Edition.{Edition}
 use Rattle.go_scan.specs.declared.token.TokenKind.{TokenKind}
 use Rattle.go_scan.specs.Words.{IsWord}
-use Rattle.go_ast.specs.Trees.{Name, TypeExpr, Expr, Exprs, Simple, call_statement, increment, decrement, assignment, operator_assignment, short_var_decl, ConstSpec, VarSpec, TypeSpec, Decl, constants, variables, types, Stmt, empty, declaration, simple, return, break, continue, fallthrough, block_statement, if_statement, for_statement, range_statement, switch_statement, Block, block, If, conditional, Else, no_else, else_block, else_if, Stmts, no_stmts, some_stmts, Clauses, no_clauses, clause, Parameter, Function}
+use Rattle.go_ast.specs.Trees.{Name, TypeExpr, Expression, ExpressionList, Simple, call_statement, increment, decrement, assignment, operator_assignment, short_var_decl, ConstSpec, VarSpec, TypeSpec, Decl, constants, variables, types, Statement, empty, declaration, simple, return, break, continue, fallthrough, block_statement, if_statement, for_statement, range_statement, switch_statement, Block, block, If, conditional, Else, no_else, else_block, else_if, StatementList, no_stmts, some_stmts, Cases, no_clauses, clause, Parameter, FunctionDecl}
 use Rattle.go_ast.specs.Grammar.{Lexeme, semicolon, AreItems, IsType, IsSimple, is_short_var_decl, IsType?, IsExpr?, IsSimple?, AreValues, IsConstSpec, IsVarSpec, IsTypeSpec, IsGroup, IsDecl, IsStart, IsForHead, IsRangeName, IsCase, is_last, IsStmt, IsBlock, IsIf, IsElse, AreStmts, AreClauses, IsParameter, AreResults, IsFunction}
 use Rattle.go_package_laws.proofs.Texts.{HaveTexts, TypeHasTexts}
 use Rattle.go_package_laws.proofs.BodyTexts.{MayHaveTexts, CasesHaveTexts, WrittenHasTexts, SimpleHasTexts, FirstHasTexts, IsPost, ConstantsHaveTexts, VariablesHaveTexts, DeclHasTexts, StmtsHaveTexts, StmtHasTexts, BlockHasTexts, IfHasTexts, ElseHasTexts, ClausesHaveTexts, ParametersHaveTexts, ResultsHaveTexts, FunctionHasTexts}
@@ -37,7 +37,7 @@ module _ (ed : Edition) where
   written_texts None us ws h texts = (tt, subst AreTexts h texts)
   written_texts (Some a) us ws h texts = type_texts ed a us ws h texts
 
-  values_texts : (es : Exprs) (us ws : List Lexeme) → AreValues ed es us ws → AreTexts us → HaveTexts es × AreTexts ws
+  values_texts : (es : ExpressionList) (us ws : List Lexeme) → AreValues ed es us ws → AreTexts us → HaveTexts es × AreTexts ws
   values_texts es us ws (t, vs, mark, all) texts = exprs_texts ed false es vs ws all (behind_token _ t us vs mark texts)
 
 abbrev ConstantHasTexts : ConstSpec → Type 0
@@ -114,7 +114,7 @@ module _ (ed : Edition) where
   simple_texts h (short_var_decl ns rs) us ws (t, vs, xs, names, mark, right) texts =
       exprs_texts ed h rs xs ws right (behind_token _ t vs xs mark (behind_names ns us vs names texts))
 
-  may_texts : (e : Option Expr) (us ws : List Lexeme) → IsExpr? ed e us ws → AreTexts us → MayHaveTexts e × AreTexts ws
+  may_texts : (e : Option Expression) (us ws : List Lexeme) → IsExpr? ed e us ws → AreTexts us → MayHaveTexts e × AreTexts ws
   may_texts None us ws h texts = (tt, subst AreTexts h texts)
   may_texts (Some e) us ws h texts = expr_texts ed 5 true e us ws h texts
 
@@ -137,7 +137,7 @@ module _ (ed : Edition) where
   post_of (Some (assignment ls rs)) h plain = h
   post_of (Some (operator_assignment op l r)) h plain = h
 
-  head_texts : (i : Option Simple) (c : Option Expr) (n : Option Simple) (us ws : List Lexeme) → IsForHead ed i c n us ws → AreTexts us → (FirstHasTexts i × MayHaveTexts c × IsPost n) × AreTexts ws
+  head_texts : (i : Option Simple) (c : Option Expression) (n : Option Simple) (us ws : List Lexeme) → IsForHead ed i c n us ws → AreTexts us → (FirstHasTexts i × MayHaveTexts c × IsPost n) × AreTexts ws
   head_texts i c n us ws (inl (none, also, one)) texts =
       let first = may_texts c us ws one texts in
       ((subst FirstHasTexts (sym none) tt, first.0, subst IsPost (sym also) tt), first.1)
@@ -151,14 +151,14 @@ module _ (ed : Edition) where
   range_name None us ws h texts = subst AreTexts h texts
   range_name (Some n) us ws (t, m, vs, one, is, mark) texts = behind_token _ m vs ws mark (behind_token _ t us vs one texts)
 
-  case_texts : (p : _) (es : Option Exprs) (us ws : List Lexeme) → IsCase ed p es us ws → AreTexts us → CasesHaveTexts es × AreTexts ws
+  case_texts : (p : _) (es : Option ExpressionList) (us ws : List Lexeme) → IsCase ed p es us ws → AreTexts us → CasesHaveTexts es × AreTexts ws
   case_texts p None us ws (t, word, at) texts = (tt, behind_token _ t us ws word texts)
   case_texts p (Some es) us ws (t, vs, word, at, all) texts = exprs_texts ed false es vs ws all (behind_token _ t us vs word texts)
 
   -- ---- statements
 
   mutual
-    stmt_texts : (s : Stmt) (us ws : List Lexeme) → IsStmt ed s us ws → AreTexts us → StmtHasTexts s × AreTexts ws
+    stmt_texts : (s : Statement) (us ws : List Lexeme) → IsStmt ed s us ws → AreTexts us → StmtHasTexts s × AreTexts ws
     stmt_texts (empty p) us ws (t, vs, mark, at, same) texts = (tt, subst AreTexts same texts)
     stmt_texts (declaration p e) us ws (one, at, local) texts = decl_texts e us ws one texts
     stmt_texts (simple p s) us ws (one, at) texts = simple_texts false s us ws one texts
@@ -201,7 +201,7 @@ module _ (ed : Edition) where
     else_texts (else_block b) us ws (t, vs, word, body) texts = block_texts b vs ws body (behind_token _ t us vs word texts)
     else_texts (else_if i) us ws (t, vs, word, rest) texts = if_texts i vs ws rest (behind_token _ t us vs word texts)
 
-    stmts_texts : (closed : Bool) (ss : Stmts) (us ws : List Lexeme) → AreStmts ed closed ss us ws → AreTexts us → StmtsHaveTexts ss × AreTexts ws
+    stmts_texts : (closed : Bool) (ss : StatementList) (us ws : List Lexeme) → AreStmts ed closed ss us ws → AreTexts us → StmtsHaveTexts ss × AreTexts ws
     stmts_texts closed no_stmts us ws h texts = (tt, subst AreTexts h texts)
     stmts_texts closed (some_stmts s ss) us ws (vs, one, inl (t, xs, mark, rest)) texts =
         let first = stmt_texts s us vs one texts in
@@ -211,7 +211,7 @@ module _ (ed : Edition) where
         let first = stmt_texts s us vs one texts in
         ((first.0, subst StmtsHaveTexts (sym last.0) tt), subst AreTexts same first.1)
 
-    clauses_texts : (cs : Clauses) (us ws : List Lexeme) → AreClauses ed cs us ws → AreTexts us → ClausesHaveTexts cs × AreTexts ws
+    clauses_texts : (cs : Cases) (us ws : List Lexeme) → AreClauses ed cs us ws → AreTexts us → ClausesHaveTexts cs × AreTexts ws
     clauses_texts no_clauses us ws h texts = (tt, subst AreTexts h texts)
     clauses_texts (clause p es ss cs) us ws (t, vs, xs, ys, head, mark, all, rest) texts =
         let one = case_texts p es us vs head texts in
@@ -239,7 +239,7 @@ module _ (ed : Edition) where
       let all = items_texts (IsType ed) TypeHasTexts _ (type_texts ed) ts vs xs items (behind_token _ o us vs open_one texts) in
       (results_have ts all.0, behind_token _ c xs ws close all.1)
 
-  pub function_texts : (f : Function) (us ws : List Lexeme) → IsFunction ed f us ws → AreTexts us → FunctionHasTexts f × AreTexts ws
+  pub function_texts : (f : FunctionDecl) (us ws : List Lexeme) → IsFunction ed f us ws → AreTexts us → FunctionHasTexts f × AreTexts ws
   function_texts f us ws (k, t, o, c, vs, xs, ys, zs, zs', zs'', word, at, own, is, open_one, parameters, close, results, body) texts =
       let one = items_texts (IsParameter ed) (λ (p : Parameter). TypeHasTexts p.type) _ parameter_texts f.parameters ys zs parameters
       (behind_token _ o xs ys open_one (behind_token _ t vs xs own (behind_token _ k us vs word texts))) in
@@ -248,6 +248,6 @@ module _ (ed : Edition) where
       ((parameters_have f.parameters one.0, two.0, three.0), three.1)
 
   -- its name is a word
-  pub function_named : (f : Function) (us ws : List Lexeme) → IsFunction ed f us ws → AreTexts us → IsWord f.name.text
+  pub function_named : (f : FunctionDecl) (us ws : List Lexeme) → IsFunction ed f us ws → AreTexts us → IsWord f.name.text
   function_named f us ws (k, t, o, c, vs, xs, ys, zs, zs', zs'', word, at, own, is, open_one, parameters, close, results, body) texts =
       token_named f.name t vs xs own is (behind_token _ k us vs word texts)

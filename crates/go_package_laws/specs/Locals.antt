@@ -1,14 +1,14 @@
 -- Types are not declared in functions: the grammar has no such statement.
 use Rattle.std.specs.Prelude.{◌≡◌, false}
 use Rattle.go_ast.specs.Grammar.{declares_types}
-use Rattle.go_ast.specs.Trees.{Stmt, declaration, block_statement, if_statement, for_statement, range_statement, switch_statement, Block, block, If, conditional, Else, no_else, else_block, else_if, Stmts, no_stmts, some_stmts, Clauses, no_clauses, clause}
+use Rattle.go_ast.specs.Trees.{Statement, declaration, block_statement, if_statement, for_statement, range_statement, switch_statement, Block, block, If, conditional, Else, no_else, else_block, else_if, StatementList, no_stmts, some_stmts, Cases, no_clauses, clause}
 
 abbrev mutual
-  pub AreLocal : Stmts → Type 0
+  pub AreLocal : StatementList → Type 0
   AreLocal no_stmts = Unit {0}
   AreLocal (some_stmts s ss) = IsLocalIn s × AreLocal ss
 
-  pub IsLocalIn : Stmt → Type 0
+  pub IsLocalIn : Statement → Type 0
   IsLocalIn (declaration p d) = declares_types d ≡ false
   IsLocalIn (block_statement b) = IsLocalBlock b
   IsLocalIn (if_statement i) = IsLocalIf i
@@ -28,6 +28,6 @@ abbrev mutual
   IsLocalElse (else_block b) = IsLocalBlock b
   IsLocalElse (else_if i) = IsLocalIf i
 
-  pub AreLocalClauses : Clauses → Type 0
+  pub AreLocalClauses : Cases → Type 0
   AreLocalClauses no_clauses = Unit {0}
   AreLocalClauses (clause p es ss rest) = AreLocal ss × AreLocalClauses rest

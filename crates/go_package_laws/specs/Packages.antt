@@ -8,7 +8,7 @@ use Rattle.go_ast.specs.Trees.{File}
 use Rattle.go_typed.specs.Trees.{Function, Package, no_exprs, no_stmts, run, some_stmts}
 use Rattle.go_init.specs.Variables.{variable_order}
 use Rattle.go_code.specs.declared.ending.Ending.{Ending}
-use Rattle.go_meaning.specs.Programs.{SourceMeaning, last_package, symbol_of}
+use Rattle.go_meaning.specs.Programs.{SourceMeaning, last_package, package_symbol}
 use Rattle.go_expr.specs.Known.{library}
 use Rattle.go_check.specs.Names.{importable_of}
 use Rattle.go_meaning_laws.specs.WellTyped.{is_text}
@@ -83,7 +83,7 @@ SomeMain A Has path =
 
 -- the one function of a package calls a function of another, and does nothing else
 abbrev pub CallsInto : Package → Package → Type 0
-CallsInto q p = (x : List ℕ) × (map (λ (f : Function). f.body) p.functions ≡ some_stmts (run [] (symbol_of q x) no_exprs) no_stmts ∷ [])
+CallsInto q p = (x : List ℕ) × (map (λ (f : Function). f.body) p.functions ≡ some_stmts (run [] (package_symbol q x) no_exprs) no_stmts ∷ [])
 
 -- some files are without fault a package, and others at a path one named main that imports it and calls it; each variable gets its value
 abbrev pub SomeImport : List ℕ → Type 0

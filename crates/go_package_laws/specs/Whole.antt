@@ -6,7 +6,7 @@ use Rattle.go_text.specs.declared.edition.Edition.{Edition}
 use Rattle.go_ast.specs.Parse.{IsParse, Derived}
 use Rattle.go_ast.specs.Trees.{no_exprs, some_exprs, VarSpec, variables, TopLevel, declared, function, File}
 use Rattle.go_typed.specs.Trees as typed
-use Rattle.go_objects.specs.Objects.{Form, constant, type', typed_variable, valued_variable, result_variable, Object, objects_from, objects_of}
+use Rattle.go_objects.specs.Objects.{Form, constant, type', typed_variable, valued_variable, result_variable, DeclaredObject, objects_from, objects_of}
 use Rattle.go_objects.specs.Table.{own_names}
 use Rattle.go_package.specs.Typed.{own_name}
 
@@ -17,8 +17,8 @@ AreParsed edition (f ∷ fs) = ((text : List ℕ) × IsParse edition text (Deriv
 
 -- ---- objects by their forms
 
-abbrev pub is_constant : Form → Bool
-is_constant form = elim form [ constant t e iota ↦ true | _ ↦ false ]
+abbrev pub is_constant_form : Form → Bool
+is_constant_form form = elim form [ constant t e iota ↦ true | _ ↦ false ]
 
 abbrev pub is_type : Form → Bool
 is_type form = elim form [ type' t ↦ true | _ ↦ false ]
@@ -27,20 +27,20 @@ abbrev pub is_variable : Form → Bool
 is_variable form = elim form [ typed_variable t ↦ true | valued_variable e ↦ true | result_variable number count e ↦ true | _ ↦ false ]
 
 -- the names of such objects
-abbrev pub objects_named : (Form → Bool) → List Object → List (List ℕ)
-objects_named is os = map (λ (o : Object). o.name.text) (filter (λ (o : Object). is o.form) os)
+abbrev pub objects_named : (Form → Bool) → List DeclaredObject → List (List ℕ)
+objects_named is os = map (λ (o : DeclaredObject). o.name.text) (filter (λ (o : DeclaredObject). is o.form) os)
 
 -- an object whose name isn't blank
-abbrev pub is_named : Object → Bool
+abbrev pub is_named : DeclaredObject → Bool
 is_named o = not (bytes_eq o.name.text (codes "_"))
 
 -- all that files declare, in the order of the text, but the blank names
-abbrev pub declared_by : List File → List Object
-declared_by files = filter is_named (objects_from 0 files)
+abbrev pub all_declared_by : List File → List DeclaredObject
+all_declared_by files = filter is_named (objects_from 0 files)
 
 -- the objects of files are all that these declare
 abbrev pub DropNothing : List File → Type 0
-DropNothing files = objects_of files ≡ declared_by files
+DropNothing files = objects_of files ≡ all_declared_by files
 
 -- ---- declarations
 
@@ -52,22 +52,22 @@ abbrev pub function_names : TopLevel → List (List ℕ)
 function_names top = elim top [ function f ↦ own_names (f.name ∷ []) | _ ↦ [] ]
 
 -- functions init count from 1, by names that are no words
-abbrev pub with_numbers : ℕ → List (List ℕ) → List (List ℕ)
-with_numbers n [] = []
-with_numbers n (x ∷ xs) = if bytes_eq x (codes "init") then (codes "init." ++ decimal n) ∷ with_numbers (suc n) xs else x ∷ with_numbers n xs
+abbrev pub numbered_names : ℕ → List (List ℕ) → List (List ℕ)
+numbered_names n [] = []
+numbered_names n (x ∷ xs) = if bytes_eq x (codes "init") then (codes "init." ++ decimal n) ∷ numbered_names (suc n) xs else x ∷ numbered_names n xs
 
 -- variables that get values where they are declared; a blank one has no name
-abbrev pub valued : VarSpec → List (Option (List ℕ))
-valued s = elim s.values [ no_exprs ↦ [] | some_exprs e es ↦ map own_name s.names ]
+abbrev pub valued_names : VarSpec → List (Option (List ℕ))
+valued_names s = elim s.values [ no_exprs ↦ [] | some_exprs e es ↦ map own_name s.names ]
 
 abbrev pub valued_in : TopLevel → List (Option (List ℕ))
-valued_in top = elim top [ declared (variables p ss) ↦ flat_map valued ss | _ ↦ [] ]
+valued_in top = elim top [ declared (variables p ss) ↦ flat_map valued_names ss | _ ↦ [] ]
 
 -- each constant, type and variable that the files declare, the initialization of each variable that gets a value, and each function
-pub record IsWhole (files : List File) (p : typed.Package) : Type 0 where
-  pub constants : map (λ c. c.0) p.constants ≡ objects_named is_constant (declared_by files)
-  pub types : map (λ t. t.0) p.types ≡ objects_named is_type (declared_by files)
-  pub variables : map (λ (v : typed.Variable). v.name) p.variables ≡ objects_named is_variable (declared_by files)
+pub record HasAllDeclarations (files : List File) (p : typed.Package) : Type 0 where
+  pub constants : map (λ c. c.0) p.constants ≡ objects_named is_constant_form (all_declared_by files)
+  pub types : map (λ t. t.0) p.types ≡ objects_named is_type (all_declared_by files)
+  pub variables : map (λ (v : typed.Variable). v.name) p.variables ≡ objects_named is_variable (all_declared_by files)
   pub initializations : flat_map (λ (i : typed.Initialization). i.variables) p.initializations ≡ in_files valued_in files
   pub uses : map (λ u. u.0) p.uses ≡ in_files function_names files
-  pub functions : map (λ (f : typed.Function). f.name) p.functions ≡ with_numbers 1 (in_files function_names files)
+  pub functions : map (λ (f : typed.Function). f.name) p.functions ≡ numbered_names 1 (in_files function_names files)

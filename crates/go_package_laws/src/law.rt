@@ -9,7 +9,7 @@ ghost use Rattle.go_link.specs.Links.{link_refusal};
 ghost use Rattle.go_typed.specs.Trees.{Initialization, Package};
 ghost use Rattle.go_meaning.specs.Meaning.{Stuck};
 ghost use Rattle.go_init.specs.Variables.{variable_order};
-ghost use Rattle.go_meaning.specs.Programs.{IsProgram, calls, package_steps, run, symbol_of};
+ghost use Rattle.go_meaning.specs.Programs.{IsProgram, calls, package_steps, run_program, package_symbol};
 ghost use Rattle.go_export.specs.Exports.{exports_of};
 ghost use Rattle.go_export.specs.Writable.{IsShown};
 ghost use Rattle.go_package.specs.Imports.{Importable};
@@ -27,7 +27,7 @@ pub fn law_checked_packages_are_well_typed()
 
 /// Such a program breaks no rule of the language, whatever its number of ticks: it has a meaning.
 pub fn law_checked_program_is_never_stuck()
-    ensures never { (packages : List Package) (ticks : ℕ) → AreChecked packages → IsNamedMain packages → run packages ticks ≢ Stuck }
+    ensures never { (packages : List Package) (ticks : ℕ) → AreChecked packages → IsNamedMain packages → run_program packages ticks ≢ Stuck }
     ensures means { (packages : List Package) (ticks : ℕ) → AreChecked packages → IsNamedMain packages → HasMeaning packages ticks }
 {}
 
@@ -63,7 +63,7 @@ pub fn law_one_checked_package()
 /// main. A value can depend on itself, too: of such a package the laws above say nothing.
 pub fn law_packages_may_be_initialized()
     ensures valued { (path : List ℕ) → SomeMain Initialization (λ p i. variable_order p ≡ (i ∷ [], [])) path }
-    ensures init { (path : List ℕ) → SomeMain (List ℕ) (λ p x. package_steps p ≡ calls (symbol_of p x) ∷ []) path }
+    ensures init { (path : List ℕ) → SomeMain (List ℕ) (λ p x. package_steps p ≡ calls (package_symbol p x) ∷ []) path }
     ensures circular { (path : List ℕ) → SomeMain Initialization (λ p i. variable_order p ≡ ([], i ∷ [])) path }
 {}
 

@@ -1,4 +1,4 @@
-//! What the checker accepts is well typed, and nothing of it is passed over.
+//! What the checker accepts is well typed, and nothing of it is left out.
 #![tactic(auto)]
 
 pub mod complete;

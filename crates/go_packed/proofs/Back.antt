@@ -30,9 +30,9 @@ use Rattle.go_code.specs.declared.operator.TextOperator.TheVariants.{At, Length,
 use Rattle.go_code.specs.declared.operator.SliceOperator.TheVariants as slices
 use Rattle.go_code.specs.Functions.{Setup}
 use Rattle.go_code.specs.Packages.{Object, PackageVariable, PackageFunction}
-use Rattle.go_packed.specs.Tokens.{Token}
+use Rattle.go_packed.specs.Tokens.{PackedToken}
 use Rattle.go_packed.specs.Spelling.{kind_number, arithmetic_number, comparison_number, operator_tokens, cell_tokens, frame_tokens, instr_tokens, list_tokens, function_tokens, variable_tokens, setup_tokens, object_tokens}
-use Rattle.go_packed.specs.Reading.{Read, kind_at, arithmetic_at, comparison_at, read_cell, read_instr, read_many, read_list, read_variable, read_setup, read_function, edition_at, object_of}
+use Rattle.go_packed.specs.Reading.{Read, kind_at, arithmetic_at, comparison_at, read_cell, read_instr, read_many, read_list, read_variable, read_setup, read_function, edition_at, unpacked_object}
 
 kind_back : (k : IntKind) → kind_at (kind_number k) ≡ k
 kind_back Int = refl
@@ -65,7 +65,7 @@ comparison_back LessOrEqual = refl
 comparison_back Greater = refl
 comparison_back GreaterOrEqual = refl
 
-operator_back : (o : Operator) (rest : List Token) → read_instr (operator_tokens o ++ rest) ≡ (instr.Operate o, rest)
+operator_back : (o : Operator) (rest : List PackedToken) → read_instr (operator_tokens o ++ rest) ≡ (instr.Operate o, rest)
 operator_back (operator.Arithmetic op kind) rest = ap (λ a. (instr.Operate (operator.Arithmetic a (kind_at (kind_number kind))), rest)) (arithmetic_back op) ∙ ap (λ k. (instr.Operate (operator.Arithmetic op k), rest)) (kind_back kind)
 operator_back (operator.Shift Left kind) rest = ap (λ k. (instr.Operate (operator.Shift Left k), rest)) (kind_back kind)
 operator_back (operator.Shift Right kind) rest = ap (λ k. (instr.Operate (operator.Shift Right k), rest)) (kind_back kind)
@@ -83,14 +83,14 @@ operator_back (operator.Slice slices.Length) rest = refl
 operator_back (operator.Slice slices.Capacity) rest = refl
 operator_back (operator.Slice slices.Cut) rest = refl
 
-cell_back : (c : Cell) (rest : List Token) → read_cell (cell_tokens c ++ rest) ≡ (c, rest)
+cell_back : (c : Cell) (rest : List PackedToken) → read_cell (cell_tokens c ++ rest) ≡ (c, rest)
 cell_back (cell.Int z) rest = refl
 cell_back (cell.Bool false) rest = refl
 cell_back (cell.Bool true) rest = refl
 cell_back (cell.Text text) rest = refl
 cell_back (cell.Slice row start n c) rest = refl
 
-frame_back : (i : FrameInstr) (rest : List Token) → read_instr (frame_tokens i ++ rest) ≡ (instr.Frame i, rest)
+frame_back : (i : FrameInstr) (rest : List PackedToken) → read_instr (frame_tokens i ++ rest) ≡ (instr.Frame i, rest)
 frame_back (Push (cell.Int z)) rest = refl
 frame_back (Push (cell.Bool false)) rest = refl
 frame_back (Push (cell.Bool true)) rest = refl
@@ -99,7 +99,7 @@ frame_back (Push (cell.Slice row start n c)) rest = refl
 frame_back (Pop count) rest = refl
 frame_back (Repeat count times) rest = refl
 
-instr_back : (i : Instr Symbol) (rest : List Token) → read_instr (instr_tokens i ++ rest) ≡ (i, rest)
+instr_back : (i : Instr Symbol) (rest : List PackedToken) → read_instr (instr_tokens i ++ rest) ≡ (i, rest)
 instr_back (instr.Frame i) rest = frame_back i rest
 instr_back (instr.Local (Load first count)) rest = refl
 instr_back (instr.Local (Store first count)) rest = refl
@@ -131,26 +131,26 @@ instr_back (instr.Calls (Return count)) rest = refl
 
 -- ---- lists
 
-many_back : {A : Type 0} (read : List Token → Read A) (write : A → List Token) → ((x : A) (rest : List Token) → read (write x ++ rest) ≡ (x, rest))
-    → (xs : List A) (rest : List Token) → read_many read (length xs) (flat_map write xs ++ rest) ≡ (xs, rest)
+many_back : {A : Type 0} (read : List PackedToken → Read A) (write : A → List PackedToken) → ((x : A) (rest : List PackedToken) → read (write x ++ rest) ≡ (x, rest))
+    → (xs : List A) (rest : List PackedToken) → read_many read (length xs) (flat_map write xs ++ rest) ≡ (xs, rest)
 many_back read write back [] rest = refl
 many_back read write back (x ∷ xs) rest = rw (append_assoc (write x) (flat_map write xs) rest, back x (flat_map write xs ++ rest), many_back read write back xs rest) refl
 
-list_back : {A : Type 0} (read : List Token → Read A) (write : A → List Token) → ((x : A) (rest : List Token) → read (write x ++ rest) ≡ (x, rest))
-    → (xs : List A) (rest : List Token) → read_list read (list_tokens write xs ++ rest) ≡ (xs, rest)
+list_back : {A : Type 0} (read : List PackedToken → Read A) (write : A → List PackedToken) → ((x : A) (rest : List PackedToken) → read (write x ++ rest) ≡ (x, rest))
+    → (xs : List A) (rest : List PackedToken) → read_list read (list_tokens write xs ++ rest) ≡ (xs, rest)
 list_back read write back xs rest = many_back read write back xs rest
 
-variable_back : (v : PackageVariable) (rest : List Token) → read_variable (variable_tokens v ++ rest) ≡ (v, rest)
+variable_back : (v : PackageVariable) (rest : List PackedToken) → read_variable (variable_tokens v ++ rest) ≡ (v, rest)
 variable_back v rest =
     let f : Read (List Cell) → Read PackageVariable = λ r. (record { name = v.name; zero = r.0 }, r.1) in
     ap f (list_back read_cell cell_tokens cell_back v.zero rest)
 
-setup_back : (s : Setup Symbol) (rest : List Token) → read_setup (setup_tokens s ++ rest) ≡ (s, rest)
+setup_back : (s : Setup Symbol) (rest : List PackedToken) → read_setup (setup_tokens s ++ rest) ≡ (s, rest)
 setup_back s rest =
     let f : Read (List (Instr Symbol)) → Read (Setup Symbol) = λ r. (record { cells = s.cells; code = r.0 }, r.1) in
     ap f (list_back read_instr instr_tokens instr_back s.code rest)
 
-function_back : (p : PackageFunction) (rest : List Token) → read_function (function_tokens p ++ rest) ≡ (p, rest)
+function_back : (p : PackageFunction) (rest : List PackedToken) → read_function (function_tokens p ++ rest) ≡ (p, rest)
 function_back p rest =
     let f : Read (List (Instr Symbol)) → Read PackageFunction =
     λ r. (record { name = p.name; function = record { parameters = p.function.parameters; cells = p.function.cells; code = r.0 } }, r.1) in
@@ -161,10 +161,10 @@ edition_back One = refl
 edition_back Two = refl
 
 -- what an object is written by gives the object back
-pub object_back : (o : Object) → object_of (object_tokens o) ≡ o
+pub object_back : (o : Object) → unpacked_object (object_tokens o) ≡ o
 object_back o =
-    let setups : List Token = list_tokens setup_tokens o.setups in
-    let functions : List Token = list_tokens function_tokens o.functions ++ setups in
+    let setups : List PackedToken = list_tokens setup_tokens o.setups in
+    let functions : List PackedToken = list_tokens function_tokens o.functions ++ setups in
     let with_variables : Read (List PackageVariable) → Object =
     λ v. record { path = o.path; name = o.name; edition = edition_at (edition_number o.edition); variables = v.0; functions = (read_list read_function v.1).0; setups = (read_list read_setup (read_list read_function v.1).1).0 } in
     let with_functions : Read (List PackageFunction) → Object =

@@ -1,5 +1,5 @@
-pub mod Cuts
-pub mod Back
-pub mod Listed
-pub mod Many
-pub mod Whole
+mod Cuts
+mod Back
+mod Listed
+mod Many
+mod Whole

@@ -5,61 +5,61 @@ use Rattle.std.proofs.lemmas.Bool.{lt-ltb, le-ltb}
 use Rattle.std.proofs.Math.Dec.{ltb}
 use Rattle.std.proofs.lemmas.Option.{slice_get_within, get_or_from_slice_get}
 use Rattle.std.proofs.lemmas.List.{get_or_append_left}
-use Rattle.go_packed.specs.Tokens.{Token, Number, Integer, Text, Name, Beside, token_at, beside_after, tokens}
-use Rattle.go_packed.specs.Whole.{IsWhole, both}
+use Rattle.go_packed.specs.Tokens.{PackedToken, Number, Integer, Text, Name, Beside, token_at, beside_after, tokens}
+use Rattle.go_packed.specs.Whole.{IsPackedForm, appended_beside}
 
 abbrev none : Beside
 none = record { shorts = []; sizes = []; integers = []; texts = [] }
 
-pub whole_none : IsWhole [] (record { shorts = []; sizes = []; integers = []; texts = [] }) []
+pub whole_none : IsPackedForm [] (record { shorts = []; sizes = []; integers = []; texts = [] }) []
 whole_none = record { goes_on = λ more next rest. refl }
 
-both_none : (b : Beside) → both b none ≡ b
+both_none : (b : Beside) → appended_beside b none ≡ b
 both_none b = rw (append-nil b.shorts, append-nil b.sizes, append-nil b.integers, append-nil b.texts) refl
 
 -- whole bytes with a token behind them
-pub record Writes (names : List (List ℕ)) (beside : Beside) (bytes : List ℕ) (new_names : List (List ℕ)) (new_beside : Beside) (new_bytes : List ℕ) (t : Token) : Type 0 where
+pub record Writes (names : List (List ℕ)) (beside : Beside) (bytes : List ℕ) (new_names : List (List ℕ)) (new_beside : Beside) (new_bytes : List ℕ) (t : PackedToken) : Type 0 where
   pub tokens_are : tokens new_names new_beside new_bytes ≡ tokens names beside bytes ++ t ∷ []
-  pub whole : IsWhole new_names new_beside new_bytes
+  pub whole : IsPackedForm new_names new_beside new_bytes
 
 -- names behind others
 abbrev pub Extends : List (List ℕ) → List (List ℕ) → Type 0
 Extends names new_names = (added : List (List ℕ)) × (new_names ≡ names ++ added)
 
 -- bytes stand for the same where there are more names
-pub same_tokens : (names new_names : List (List ℕ)) (b : Beside) (bytes : List ℕ) → Extends names new_names → IsWhole names b bytes → tokens new_names b bytes ≡ tokens names b bytes
+pub same_tokens : (names new_names : List (List ℕ)) (b : Beside) (bytes : List ℕ) → Extends names new_names → IsPackedForm names b bytes → tokens new_names b bytes ≡ tokens names b bytes
 same_tokens names new_names b bytes extends h =
     ap (λ n. tokens n b bytes) extends.1
     ∙ ap (λ x. tokens (names ++ extends.0) x bytes) (sym (both_none b))
-    ∙ ap (λ l. tokens (names ++ extends.0) (both b none) l) (sym (append-nil bytes))
+    ∙ ap (λ l. tokens (names ++ extends.0) (appended_beside b none) l) (sym (append-nil bytes))
     ∙ h.goes_on extends.0 none []
     ∙ append-nil (tokens names b bytes)
 
-pub whole_more : (names new_names : List (List ℕ)) (b : Beside) (bytes : List ℕ) → Extends names new_names → IsWhole names b bytes → IsWhole new_names b bytes
+pub whole_more : (names new_names : List (List ℕ)) (b : Beside) (bytes : List ℕ) → Extends names new_names → IsPackedForm names b bytes → IsPackedForm new_names b bytes
 whole_more names new_names b bytes extends h =
     let regroup : (more : List (List ℕ)) → new_names ++ more ≡ names ++ (extends.0 ++ more) = λ more. ap (λ l. l ++ more) extends.1 ∙ append_assoc names extends.0 more in
     record {
       goes_on = λ more next rest.
-          ap (λ n. tokens n (both b next) (bytes ++ rest)) (regroup more)
+          ap (λ n. tokens n (appended_beside b next) (bytes ++ rest)) (regroup more)
           ∙ h.goes_on (extends.0 ++ more) next rest
           ∙ ap (λ n. tokens names b bytes ++ tokens n next rest) (sym (regroup more))
           ∙ ap (λ l. l ++ tokens (new_names ++ more) next rest) (sym (same_tokens names new_names b bytes extends h));
     }
 
 -- a byte behind others, where what lies beside it is in front of what lies beside those that follow
-module _ (names new_names : List (List ℕ)) (extends : Extends names new_names) (beside new_beside : Beside) (bytes : List ℕ) (byte : ℕ) (t : Token) (front : Beside → Beside)
-    (lies : (next : Beside) → both new_beside next ≡ both beside (front next))
+module _ (names new_names : List (List ℕ)) (extends : Extends names new_names) (beside new_beside : Beside) (bytes : List ℕ) (byte : ℕ) (t : PackedToken) (front : Beside → Beside)
+    (lies : (next : Beside) → appended_beside new_beside next ≡ appended_beside beside (front next))
     (stands : (more : List (List ℕ)) (next : Beside) → token_at (new_names ++ more) (front next) byte ≡ t)
     (passes : (next : Beside) → beside_after (front next) byte ≡ next)
-    (h : IsWhole names beside bytes) where
+    (h : IsPackedForm names beside bytes) where
   regrouped : (more : List (List ℕ)) → new_names ++ more ≡ names ++ (extends.0 ++ more)
   regrouped more = ap (λ l. l ++ more) extends.1 ∙ append_assoc names extends.0 more
 
-  goes : (more : List (List ℕ)) (next : Beside) (rest : List ℕ) → tokens (new_names ++ more) (both new_beside next) ((bytes ++ byte ∷ []) ++ rest) ≡ tokens names beside bytes ++ (t ∷ tokens (new_names ++ more) next rest)
+  goes : (more : List (List ℕ)) (next : Beside) (rest : List ℕ) → tokens (new_names ++ more) (appended_beside new_beside next) ((bytes ++ byte ∷ []) ++ rest) ≡ tokens names beside bytes ++ (t ∷ tokens (new_names ++ more) next rest)
   goes more next rest =
       ap (λ b. tokens (new_names ++ more) b ((bytes ++ byte ∷ []) ++ rest)) (lies next)
-      ∙ ap (λ l. tokens (new_names ++ more) (both beside (front next)) l) (append_assoc bytes (byte ∷ []) rest)
-      ∙ ap (λ n. tokens n (both beside (front next)) (bytes ++ byte ∷ rest)) (regrouped more)
+      ∙ ap (λ l. tokens (new_names ++ more) (appended_beside beside (front next)) l) (append_assoc bytes (byte ∷ []) rest)
+      ∙ ap (λ n. tokens n (appended_beside beside (front next)) (bytes ++ byte ∷ rest)) (regrouped more)
       ∙ h.goes_on (extends.0 ++ more) (front next) (byte ∷ rest)
       ∙ ap (λ n. tokens names beside bytes ++ tokens n (front next) (byte ∷ rest)) (sym (regrouped more))
       ∙ ap (λ x. tokens names beside bytes ++ (x ∷ tokens (new_names ++ more) (beside_after (front next) byte) rest)) (stands more next)
@@ -69,7 +69,7 @@ module _ (names new_names : List (List ℕ)) (extends : Extends names new_names)
   shown =
       sym (ap (λ n. tokens n new_beside (bytes ++ byte ∷ [])) (append-nil new_names))
       ∙ ap (λ b. tokens (new_names ++ []) b (bytes ++ byte ∷ [])) (sym (both_none new_beside))
-      ∙ ap (λ l. tokens (new_names ++ []) (both new_beside none) l) (sym (append-nil (bytes ++ byte ∷ [])))
+      ∙ ap (λ l. tokens (new_names ++ []) (appended_beside new_beside none) l) (sym (append-nil (bytes ++ byte ∷ [])))
       ∙ goes [] none []
 
   written : Writes names beside bytes new_names new_beside (bytes ++ byte ∷ []) t
@@ -90,12 +90,12 @@ name_there : (names more : List (List ℕ)) (k : ℕ) (name : List ℕ) → slic
 name_there names more k name there = get_or_append_left names more [] k (slice_get_within names k name there) ∙ get_or_from_slice_get names k name [] there
 
 -- what stands for the same: more names, and the room and the vectors as they were
-pub kept_whole : {names new_names : List (List ℕ)} (extends : Extends names new_names) {b : Beside} {bytes : List ℕ} (h : IsWhole names b bytes) {room shorts sizes : List ℕ}
-    → room ≡ bytes → shorts ≡ b.shorts → sizes ≡ b.sizes → IsWhole new_names (record b { shorts = shorts; sizes = sizes }) room
+pub kept_whole : {names new_names : List (List ℕ)} (extends : Extends names new_names) {b : Beside} {bytes : List ℕ} (h : IsPackedForm names b bytes) {room shorts sizes : List ℕ}
+    → room ≡ bytes → shorts ≡ b.shorts → sizes ≡ b.sizes → IsPackedForm new_names (record b { shorts = shorts; sizes = sizes }) room
 kept_whole {names} {new_names} extends {b} {bytes} h {room} {shorts} {sizes} e f g =
-    let P : List ℕ → Type 0 = λ l. IsWhole new_names b l in
-    let Q : List ℕ → Type 0 = λ l. IsWhole new_names (record b { shorts = l }) room in
-    let R : List ℕ → Type 0 = λ l. IsWhole new_names (record b { shorts = shorts; sizes = l }) room in
+    let P : List ℕ → Type 0 = λ l. IsPackedForm new_names b l in
+    let Q : List ℕ → Type 0 = λ l. IsPackedForm new_names (record b { shorts = l }) room in
+    let R : List ℕ → Type 0 = λ l. IsPackedForm new_names (record b { shorts = shorts; sizes = l }) room in
     subst R (sym g) (subst Q (sym f) (subst P (sym e) (whole_more names new_names b bytes extends h)))
 
 pub same_parts : {names names' : List (List ℕ)} {shorts shorts' sizes sizes' : List ℕ} {integers integers' : List ℤ} {texts texts' : List (List ℕ)} {bytes bytes' : List ℕ}
@@ -114,18 +114,18 @@ pub no_more : (names : List (List ℕ)) → Extends names names
 no_more names = ([], sym (append-nil names))
 
 -- Vectors are grown first: the bytes that room was made for are those that there were.
-module _ {names new_names : List (List ℕ)} (extends : Extends names new_names) {b : Beside} {bytes : List ℕ} (h : IsWhole names b bytes) {room : List ℕ} (kept : room ≡ bytes) where
-  abbrev Now : Beside → List ℕ → Token → Type 0
+module _ {names new_names : List (List ℕ)} (extends : Extends names new_names) {b : Beside} {bytes : List ℕ} (h : IsPackedForm names b bytes) {room : List ℕ} (kept : room ≡ bytes) where
+  abbrev Now : Beside → List ℕ → PackedToken → Type 0
   Now new_beside new t = Writes names b bytes new_names new_beside new t
 
-  moved : (new_beside : Beside) (new : List ℕ) (byte : ℕ) (t : Token) → new ≡ room ++ byte ∷ [] → Now new_beside (bytes ++ byte ∷ []) t → Now new_beside new t
+  moved : (new_beside : Beside) (new : List ℕ) (byte : ℕ) (t : PackedToken) → new ≡ room ++ byte ∷ [] → Now new_beside (bytes ++ byte ∷ []) t → Now new_beside new t
   moved new_beside new byte t is w =
       let e : new ≡ bytes ++ byte ∷ [] = is ∙ ap (λ l. l ++ byte ∷ []) kept in
       let P : List ℕ → Type 0 = λ l. Now new_beside l t in
       subst P (sym e) w
 
   -- a byte alone
-  alone : {new : List ℕ} (byte : ℕ) (t : Token) → byte < 248 → ((more : List (List ℕ)) (next : Beside) → token_at (new_names ++ more) next byte ≡ t) → new ≡ room ++ byte ∷ [] → Now b new t
+  alone : {new : List ℕ} (byte : ℕ) (t : PackedToken) → byte < 248 → ((more : List (List ℕ)) (next : Beside) → token_at (new_names ++ more) next byte ≡ t) → new ≡ room ++ byte ∷ [] → Now b new t
   alone {new} byte t low stands is =
       moved b new byte t is (written names new_names extends b b bytes byte t (λ next. next) (λ next. refl) stands
       (λ next. rw (lt-ltb byte 248 low) refl) h)
@@ -149,7 +149,7 @@ module _ {names new_names : List (List ℕ)} (extends : Extends names new_names)
       alone (k + 128) (Name name) (omega arith) (λ more next. rw (not_number, here, less) (ap Name (name_there new_names more k name there))) is
 
   -- a byte beside which lies a number of two bytes
-  short : {new shorts : List ℕ} (byte n : ℕ) (t : Token) → ((more : List (List ℕ)) (next : Beside) → token_at (new_names ++ more) (record next { shorts = n ∷ next.shorts }) byte ≡ t)
+  short : {new shorts : List ℕ} (byte n : ℕ) (t : PackedToken) → ((more : List (List ℕ)) (next : Beside) → token_at (new_names ++ more) (record next { shorts = n ∷ next.shorts }) byte ≡ t)
       → ((next : Beside) → beside_after (record next { shorts = n ∷ next.shorts }) byte ≡ next) → shorts ≡ b.shorts ++ n ∷ [] → new ≡ room ++ byte ∷ [] → Now (record b { shorts = shorts }) new t
   short {new} {shorts} byte n t stands passes with is =
       moved (record b { shorts = shorts }) new byte t is (written names new_names extends b (record b { shorts = shorts }) bytes byte t (λ next. record next { shorts = n ∷ next.shorts })
@@ -167,7 +167,7 @@ module _ {names new_names : List (List ℕ)} (extends : Extends names new_names)
   short_integer n with is = short 252 n (Integer (pos n)) (λ more next. refl) (λ next. refl) with is
 
   -- a byte beside which lies a larger number
-  size : {new sizes : List ℕ} (byte n : ℕ) (t : Token) → ((more : List (List ℕ)) (next : Beside) → token_at (new_names ++ more) (record next { sizes = n ∷ next.sizes }) byte ≡ t)
+  size : {new sizes : List ℕ} (byte n : ℕ) (t : PackedToken) → ((more : List (List ℕ)) (next : Beside) → token_at (new_names ++ more) (record next { sizes = n ∷ next.sizes }) byte ≡ t)
       → ((next : Beside) → beside_after (record next { sizes = n ∷ next.sizes }) byte ≡ next) → sizes ≡ b.sizes ++ n ∷ [] → new ≡ room ++ byte ∷ [] → Now (record b { sizes = sizes }) new t
   size {new} {sizes} byte n t stands passes with is =
       moved (record b { sizes = sizes }) new byte t is (written names new_names extends b (record b { sizes = sizes }) bytes byte t (λ next. record next { sizes = n ∷ next.sizes })

@@ -34,42 +34,42 @@ use Rattle.go_code.specs.declared.operator.TextOperator.TheVariants.{At, Length,
 use Rattle.go_code.specs.declared.operator.SliceOperator.TheVariants as slices
 use Rattle.go_code.specs.Functions.{Setup}
 use Rattle.go_code.specs.Packages.{Object, PackageVariable, PackageFunction}
-use Rattle.go_packed.specs.Tokens.{Token, Number, Integer, Text, Name, first_or, behind}
+use Rattle.go_packed.specs.Tokens.{PackedToken, Number, Integer, Text, Name, first_or, rest_of}
 
 -- ---- what a token says; one of another kind says nothing
 
-abbrev pub number_of : Token → ℕ
-number_of (Number n) = n
-number_of token = 0
+abbrev pub token_number : PackedToken → ℕ
+token_number (Number n) = n
+token_number token = 0
 
-abbrev pub integer_of : Token → ℤ
+abbrev pub integer_of : PackedToken → ℤ
 integer_of (Integer z) = z
 integer_of token = pos 0
 
-abbrev pub text_of : Token → List ℕ
-text_of (Text text) = text
-text_of token = []
+abbrev pub token_text : PackedToken → List ℕ
+token_text (Text text) = text
+token_text token = []
 
-abbrev pub name_of : Token → List ℕ
-name_of (Name name) = name
-name_of token = []
+abbrev pub token_name : PackedToken → List ℕ
+token_name (Name name) = name
+token_name token = []
 
 -- the token that comes first
-abbrev pub next : List Token → Token
+abbrev pub next : List PackedToken → PackedToken
 next ts = first_or (Number 0) ts
 
 -- a value, and the tokens behind those that it was read from
 abbrev pub Read : Type 0 → Type 0
-Read A = A × List Token
+Read A = A × List PackedToken
 
 -- with the number that comes first
-abbrev pub number_then : {A : Type 0} → List Token → (ℕ → List Token → A) → A
-number_then ts go = go (number_of (next ts)) (behind ts)
+abbrev pub number_then : {A : Type 0} → List PackedToken → (ℕ → List PackedToken → A) → A
+number_then ts go = go (token_number (next ts)) (rest_of ts)
 
-abbrev pub symbol_then : {A : Type 0} → List Token → (Symbol → List Token → A) → A
-symbol_then ts go = go (record { path = name_of (next ts); name = name_of (next (behind ts)) }) (behind (behind ts))
+abbrev pub symbol_then : {A : Type 0} → List PackedToken → (Symbol → List PackedToken → A) → A
+symbol_then ts go = go (record { path = token_name (next ts); name = token_name (next (rest_of ts)) }) (rest_of (rest_of ts))
 
-abbrev pub read_symbol : List Token → Read Symbol
+abbrev pub read_symbol : List PackedToken → Read Symbol
 read_symbol ts = symbol_then ts (λ s ts. (s, ts))
 
 -- ---- operators
@@ -108,7 +108,7 @@ comparison_at n =
     else if nat_eq n 4 then Greater
     else GreaterOrEqual
 
-abbrev pub operator_by : ℕ → List Token → Read Operator
+abbrev pub operator_by : ℕ → List PackedToken → Read Operator
 operator_by tag ts =
     if nat_eq tag 26 then number_then ts (λ op ts. number_then ts (λ kind ts. (operator.Arithmetic (arithmetic_at op) (kind_at kind), ts)))
     else if nat_eq tag 27 then number_then ts (λ kind ts. (operator.Shift Left (kind_at kind), ts))
@@ -129,18 +129,18 @@ operator_by tag ts =
 
 -- ---- instructions, by their tags
 
-abbrev pub slice_then : List Token → Read Cell
+abbrev pub slice_then : List PackedToken → Read Cell
 slice_then ts = number_then ts (λ row ts. number_then ts (λ start ts. number_then ts (λ n ts. number_then ts (λ c ts. (cell.Slice row start n c, ts)))))
 
-abbrev pub cell_by : ℕ → List Token → Read Cell
+abbrev pub cell_by : ℕ → List PackedToken → Read Cell
 cell_by tag ts =
-    if nat_eq tag 0 then (cell.Int (integer_of (next ts)), behind ts)
+    if nat_eq tag 0 then (cell.Int (integer_of (next ts)), rest_of ts)
     else if nat_eq tag 1 then (cell.Bool false, ts)
     else if nat_eq tag 2 then (cell.Bool true, ts)
-    else if nat_eq tag 3 then (cell.Text (text_of (next ts)), behind ts)
+    else if nat_eq tag 3 then (cell.Text (token_text (next ts)), rest_of ts)
     else slice_then ts
 
-abbrev pub frame_by : ℕ → List Token → Read FrameInstr
+abbrev pub frame_by : ℕ → List PackedToken → Read FrameInstr
 frame_by tag ts =
     if nat_eq tag 4 then number_then ts (λ count ts. (Pop count, ts))
     else if nat_eq tag 5 then number_then ts (λ count ts. number_then ts (λ times ts. (Repeat count times, ts)))
@@ -153,13 +153,13 @@ access_by form first count =
     else if nat_eq form 2 then LoadAt first count
     else StoreAt first count
 
-abbrev pub local_by : ℕ → List Token → Read (AccessInstr ℕ)
+abbrev pub local_by : ℕ → List PackedToken → Read (AccessInstr ℕ)
 local_by form ts = number_then ts (λ first ts. number_then ts (λ count ts. (access_by form first count, ts)))
 
-abbrev pub global_by : ℕ → List Token → Read (AccessInstr Symbol)
+abbrev pub global_by : ℕ → List PackedToken → Read (AccessInstr Symbol)
 global_by form ts = symbol_then ts (λ first ts. number_then ts (λ count ts. (access_by form first count, ts)))
 
-abbrev pub part_by : ℕ → List Token → Read PartInstr
+abbrev pub part_by : ℕ → List PackedToken → Read PartInstr
 part_by tag ts =
     if nat_eq tag 14 then number_then ts (λ by ts. (Move by, ts))
     else if nat_eq tag 15 then number_then ts (λ count ts. number_then ts (λ size ts. (Index count size, ts)))
@@ -167,7 +167,7 @@ part_by tag ts =
     else if nat_eq tag 43 then number_then ts (λ size ts. (Reach size, ts))
     else number_then ts (λ whole ts. number_then ts (λ first ts. number_then ts (λ count ts. (Part whole first count, ts))))
 
-abbrev pub row_by : ℕ → List Token → Read RowInstr
+abbrev pub row_by : ℕ → List PackedToken → Read RowInstr
 row_by tag ts =
     if nat_eq tag 38 then number_then ts (λ size ts. (row.Make size, ts))
     else if nat_eq tag 39 then number_then ts (λ size ts. (row.Get size, ts))
@@ -182,10 +182,10 @@ jump_by tag by =
     else if nat_eq tag 20 then JumpIfNot by
     else LoopIf by
 
-abbrev pub output_by : ℕ → List Token → Read OutputInstr
+abbrev pub output_by : ℕ → List PackedToken → Read OutputInstr
 output_by tag ts = if nat_eq tag 22 then number_then ts (λ count ts. (Print count, ts)) else (Panic, ts)
 
-abbrev pub call_by : ℕ → List Token → Read (CallInstr Symbol)
+abbrev pub call_by : ℕ → List PackedToken → Read (CallInstr Symbol)
 call_by tag ts =
     if nat_eq tag 24 then symbol_then ts (λ s ts. (Call s, ts)) else number_then ts (λ count ts. (Return count, ts))
 
@@ -193,7 +193,7 @@ call_by tag ts =
 abbrev pub as_part : {A B : Type 0} → (A → B) → Read A → Read B
 as_part f read = (f read.0, read.1)
 
-abbrev pub instr_by : ℕ → List Token → Read (Instr Symbol)
+abbrev pub instr_by : ℕ → List PackedToken → Read (Instr Symbol)
 instr_by tag ts =
     if nat_lt tag 6 then as_part instr.Frame (frame_by tag ts)
     else if nat_lt tag 10 then as_part instr.Local (local_by (tag - 6) ts)
@@ -210,45 +210,45 @@ instr_by tag ts =
 
 -- ---- objects
 
-abbrev pub read_cell : List Token → Read Cell
+abbrev pub read_cell : List PackedToken → Read Cell
 read_cell ts = number_then ts cell_by
 
-abbrev pub read_instr : List Token → Read (Instr Symbol)
+abbrev pub read_instr : List PackedToken → Read (Instr Symbol)
 read_instr ts = number_then ts instr_by
 
 -- so many, one behind another
-abbrev pub read_many : {A : Type 0} → (List Token → Read A) → ℕ → List Token → Read (List A)
+abbrev pub read_many : {A : Type 0} → (List PackedToken → Read A) → ℕ → List PackedToken → Read (List A)
 read_many read zero ts = ([], ts)
 read_many read (suc n) ts = as_part (λ xs. (read ts).0 ∷ xs) (read_many read n (read ts).1)
 
 -- a list behind its length
-abbrev pub read_list : {A : Type 0} → (List Token → Read A) → List Token → Read (List A)
+abbrev pub read_list : {A : Type 0} → (List PackedToken → Read A) → List PackedToken → Read (List A)
 read_list read ts = number_then ts (read_many read)
 
-abbrev pub read_variable : List Token → Read PackageVariable
-read_variable ts = as_part (λ zero. record { name = name_of (next ts); zero = zero }) (read_list read_cell (behind ts))
+abbrev pub read_variable : List PackedToken → Read PackageVariable
+read_variable ts = as_part (λ zero. record { name = token_name (next ts); zero = zero }) (read_list read_cell (rest_of ts))
 
-abbrev pub read_setup : List Token → Read (Setup Symbol)
+abbrev pub read_setup : List PackedToken → Read (Setup Symbol)
 read_setup ts = number_then ts (λ cells ts. as_part (λ code. record { cells = cells; code = code }) (read_list read_instr ts))
 
-abbrev pub read_function : List Token → Read PackageFunction
+abbrev pub read_function : List PackedToken → Read PackageFunction
 read_function ts =
-    number_then (behind ts) (λ parameters rest. number_then rest (λ cells rest.
-    as_part (λ code. record { name = name_of (next ts); function = record { parameters = parameters; cells = cells; code = code } }) (read_list read_instr rest)))
+    number_then (rest_of ts) (λ parameters rest. number_then rest (λ cells rest.
+    as_part (λ code. record { name = token_name (next ts); function = record { parameters = parameters; cells = cells; code = code } }) (read_list read_instr rest)))
 
 -- the edition of a number; the first for a number of none
 abbrev pub edition_at : ℕ → Edition
 edition_at number = if nat_eq number 2 then Two else One
 
-abbrev pub object_of : List Token → Object
-object_of ts =
-    let variables = read_list read_variable (behind (behind (behind ts))) in
+abbrev pub unpacked_object : List PackedToken → Object
+unpacked_object ts =
+    let variables = read_list read_variable (rest_of (rest_of (rest_of ts))) in
     let functions = read_list read_function variables.1 in
     let setups = read_list read_setup functions.1 in
     record {
-      path = name_of (next ts);
-      name = name_of (next (behind ts));
-      edition = edition_at (number_of (next (behind (behind ts))));
+      path = token_name (next ts);
+      name = token_name (next (rest_of ts));
+      edition = edition_at (token_number (next (rest_of (rest_of ts))));
       variables = variables.0;
       functions = functions.0;
       setups = setups.0;

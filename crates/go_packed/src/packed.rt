@@ -24,11 +24,11 @@ pub struct Packed {
 impl Model for Packed {
     ghost use Rattle.go_code.specs.Packages as packages;
     ghost use Rattle.go_packed.specs.Tokens.{tokens};
-    ghost use Rattle.go_packed.specs.Reading.{object_of};
+    ghost use Rattle.go_packed.specs.Reading.{unpacked_object};
 
     ghost Value = { packages.Object };
 
-    ghost view = { λ a. object_of (tokens a.names (record { shorts = a.shorts.items; sizes = a.sizes.items; integers = a.integers.items; texts = a.texts.items }) a.bytes.items) };
+    ghost view = { λ a. unpacked_object (tokens a.names (record { shorts = a.shorts.items; sizes = a.sizes.items; integers = a.integers.items; texts = a.texts.items }) a.bytes.items) };
 }
 
 impl Packed {

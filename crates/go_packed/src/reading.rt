@@ -399,7 +399,7 @@ impl<'a> Source<'a> {
 
     /// Passes an object. An `Err` only where memory ran out.
     pub(crate) fn object(&mut self, alloc: Global) -> Result<Object, AllocError>
-        ensures { IfOk result (λ object. object ≡ reading.object_of self.old) }
+        ensures { IfOk result (λ object. object ≡ reading.unpacked_object self.old) }
     {
         let path = self.name(alloc)?;
         let name = self.name(alloc)?;

@@ -1,6 +1,6 @@
 //! Tokens, written one behind another.
 ghost use Rattle.std.specs.Prelude.{◌≡◌, ◌++◌, ◌∷◌, [], map, OnOk, IfOk};
-ghost use Rattle.go_packed.specs.Tokens.{token_of, Number, Integer, Text as A_text, Name};
+ghost use Rattle.go_packed.specs.Tokens.{piece_token, Number, Integer, Text as A_text, Name};
 
 use crate::names::Names;
 use crate::piece::Piece;
@@ -21,14 +21,14 @@ pub(crate) struct Sink<'a> {
 
 impl<'a> Model for Sink<'a> {
     ghost use Rattle.std.specs.Prelude.{List};
-    ghost use Rattle.go_packed.specs.Tokens.{Token, tokens};
-    ghost use Rattle.go_packed.specs.Whole.{IsWhole};
+    ghost use Rattle.go_packed.specs.Tokens.{PackedToken, tokens};
+    ghost use Rattle.go_packed.specs.Whole.{IsPackedForm};
 
-    ghost Value = { List Token };
+    ghost Value = { List PackedToken };
 
     ghost view = { λ a. tokens a.names (record { shorts = a.shorts.items; sizes = a.sizes.items; integers = a.integers.items; texts = a.texts.items }) a.bytes.items };
 
-    ghost invariant = { λ a. IsWhole a.names (record { shorts = a.shorts.items; sizes = a.sizes.items; integers = a.integers.items; texts = a.texts.items }) a.bytes.items };
+    ghost invariant = { λ a. IsPackedForm a.names (record { shorts = a.shorts.items; sizes = a.sizes.items; integers = a.integers.items; texts = a.texts.items }) a.bytes.items };
 }
 
 impl<'a> Sink<'a> {
@@ -117,7 +117,7 @@ impl<'a> Sink<'a> {
 
     /// Writes a token.
     fn put(&mut self, piece: Piece<'a>) -> Result<(), AllocError>
-        ensures { OnOk result (self.new ≡ self.old ++ token_of piece.entry ∷ []) }
+        ensures { OnOk result (self.new ≡ self.old ++ piece_token piece.entry ∷ []) }
     {
         match piece {
             Piece::Number(number) => self.put_number(number),
@@ -129,7 +129,7 @@ impl<'a> Sink<'a> {
 
     /// Writes tokens in order. An `Err` only where memory ran out.
     pub(crate) fn put_all(&mut self, pieces: &[Piece<'a>]) -> Result<(), AllocError>
-        ensures { OnOk result (self.new ≡ self.old ++ map token_of pieces.now) }
+        ensures { OnOk result (self.new ≡ self.old ++ map piece_token pieces.now) }
     {
         for piece in pieces {
             self.put(*piece)?;

@@ -1,7 +1,7 @@
 //! Tokens, read one behind another.
 ghost use Rattle.std.specs.Prelude.{◌≡◌, [], map, get_or, IfOk, string_bytes};
-ghost use Rattle.go_packed.specs.Tokens.{token_of, first_or, behind};
-ghost use Rattle.go_packed.specs.Reading.{next, number_of, integer_of, text_of, name_of};
+ghost use Rattle.go_packed.specs.Tokens.{piece_token, first_or, rest_of};
+ghost use Rattle.go_packed.specs.Reading.{next, token_number, integer_of, token_text, token_name};
 
 use crate::piece::Piece;
 use go_const::constant::Text;
@@ -11,7 +11,7 @@ use std::marker::Model;
 /// The first of some numbers, or another where none is, and those behind it.
 fn parted<T: Copy>(items: &[T], other: T) -> (T, &[T])
     ensures first { result.0 ≡ first_or other items.now }
-    ensures rest { result.1.now ≡ behind items.now }
+    ensures rest { result.1.now ≡ rest_of items.now }
 {
     match items.split_first() {
         Some((first, rest)) => (*first, rest),
@@ -42,9 +42,9 @@ pub(crate) struct Source<'a> {
 
 impl<'a> Model for Source<'a> {
     ghost use Rattle.std.specs.Prelude.{List, map};
-    ghost use Rattle.go_packed.specs.Tokens.{Token, tokens};
+    ghost use Rattle.go_packed.specs.Tokens.{PackedToken, tokens};
 
-    ghost Value = { List Token };
+    ghost Value = { List PackedToken };
 
     ghost view = { λ a. tokens (map (λ n. n.now) a.names.now) (record { shorts = a.shorts.now; sizes = a.sizes.now; integers = a.integers.now; texts = a.texts.now }) a.bytes.now };
 }
@@ -52,8 +52,8 @@ impl<'a> Model for Source<'a> {
 impl<'a> Source<'a> {
     /// Passes the first token; 0 where none is left.
     fn next(&mut self) -> Piece<'a>
-        ensures token { token_of result ≡ next self.old }
-        ensures left { self.new ≡ behind self.old }
+        ensures token { piece_token result ≡ next self.old }
+        ensures left { self.new ≡ rest_of self.old }
     {
         let Some((byte, bytes)) = self.bytes.split_first() else {
             return Piece::Number(0);
@@ -100,8 +100,8 @@ impl<'a> Source<'a> {
 
     /// Passes the first number.
     pub(crate) fn number(&mut self) -> usize
-        ensures number { result ≡ number_of (next self.old) }
-        ensures left { self.new ≡ behind self.old }
+        ensures number { result ≡ token_number (next self.old) }
+        ensures left { self.new ≡ rest_of self.old }
     {
         match self.next() {
             Piece::Number(number) => number,
@@ -112,7 +112,7 @@ impl<'a> Source<'a> {
     /// Passes the first number of a cell.
     pub(crate) fn integer(&mut self) -> i128
         ensures integer { result ≡ integer_of (next self.old) }
-        ensures left { self.new ≡ behind self.old }
+        ensures left { self.new ≡ rest_of self.old }
     {
         match self.next() {
             Piece::Integer(number) => number,
@@ -122,8 +122,8 @@ impl<'a> Source<'a> {
 
     /// Passes the first text. An `Err` only where memory ran out.
     pub(crate) fn text(&mut self, alloc: Global) -> Result<Text, AllocError>
-        ensures text { IfOk result (λ text. text ≡ text_of (next self.old)) }
-        ensures left { self.new ≡ behind self.old }
+        ensures text { IfOk result (λ text. text ≡ token_text (next self.old)) }
+        ensures left { self.new ≡ rest_of self.old }
     {
         match self.next() {
             Piece::Text(text) => text.copy(),
@@ -133,8 +133,8 @@ impl<'a> Source<'a> {
 
     /// Passes the first name. An `Err` only where memory ran out.
     pub(crate) fn name(&mut self, alloc: Global) -> Result<String, AllocError>
-        ensures name { IfOk result (λ name. string_bytes name ≡ name_of (next self.old)) }
-        ensures left { self.new ≡ behind self.old }
+        ensures name { IfOk result (λ name. string_bytes name ≡ token_name (next self.old)) }
+        ensures left { self.new ≡ rest_of self.old }
     {
         match self.next() {
             Piece::Name(name) => String::from_str(alloc, name),

@@ -6,7 +6,7 @@ use Rattle.go_scan.specs.declared.token.TokenKind.{TokenKind}
 use Rattle.go_ast.specs.Expected.{another}
 use Rattle.go_ast.specs.Trees.{Name, ImportSpec, TopLevel, File}
 use Rattle.go_ast.specs.Grammar.{Lexeme, semicolon, concat}
-use Rattle.go_ast.specs.Machine.{State, token, imports_at, import_end, decls_at, decl_end, ended, Done, Refused, run}
+use Rattle.go_ast.specs.Machine.{Reader, token, read_imports, import_end, decls_at, decl_end, ended, Done, Refused, run_parser}
 use Rattle.go_pexpr.specs.declared.parser.Parser.{Parser}
 use Rattle.go_pexpr.specs.declared.parser.Refusal.{Refusal}
 use Rattle.go_pexpr.specs.declared.parser.Refusal.TheVariants.{Memory, Wrong}
@@ -36,38 +36,38 @@ pub joined : {A B : Type 0} (f : A → B) (xss : List (List B)) (xs ys zs : List
 joined f xss xs ys zs e is = concat_end xss (map f ys) ∙ ap (λ ws. ws ++ map f ys) e ∙ sym (map_append f xs ys) ∙ ap (map f) (sym is)
 
 -- behind an import and a declaration a semicolon is due
-pub behind_import : (ed : Edition) → (p : Name) (iss : List (List ImportSpec)) (ts : List Lexeme) → run ed 250 (import_end p iss) ts ≡ run ed 250 (token semicolon 0 another (λ _. imports_at p iss)) ts
-behind_import ed p iss ts = same_state ed (import_end p iss) (token semicolon 0 another (λ _. imports_at p iss)) ts (λ t. refl) refl
+pub behind_import : (ed : Edition) → (p : Name) (iss : List (List ImportSpec)) (ts : List Lexeme) → run_parser ed 250 (import_end p iss) ts ≡ run_parser ed 250 (token semicolon 0 another (λ _. read_imports p iss)) ts
+behind_import ed p iss ts = same_state ed (import_end p iss) (token semicolon 0 another (λ _. read_imports p iss)) ts (λ t. refl) refl
 
-pub behind_declaration : (ed : Edition) → (p : Name) (is : List ImportSpec) (ds : List TopLevel) (ts : List Lexeme) → run ed 250 (decl_end p is ds) ts ≡ run ed 250 (token semicolon 0 another (λ _. decls_at p is ds)) ts
+pub behind_declaration : (ed : Edition) → (p : Name) (is : List ImportSpec) (ds : List TopLevel) (ts : List Lexeme) → run_parser ed 250 (decl_end p is ds) ts ≡ run_parser ed 250 (token semicolon 0 another (λ _. decls_at p is ds)) ts
 behind_declaration ed p is ds ts = same_state ed (decl_end p is ds) (token semicolon 0 another (λ _. decls_at p is ds)) ts (λ t. refl) refl
 
 -- the end, and what may not stand there
-pub ends : (ed : Edition) → (f : File) (o : Option TokenKind) (ts : List Lexeme) → o ≡ first_kind ts → is_some o ≡ false → run ed 250 (ended f) ts ≡ Done f
-unfolding run
+pub ends : (ed : Edition) → (f : File) (o : Option TokenKind) (ts : List Lexeme) → o ≡ first_kind ts → is_some o ≡ false → run_parser ed 250 (ended f) ts ≡ Done f
+unfolding run_parser
 ends ed f o [] e none = refl
 ends ed f o (t ∷ ts) e none = absurd (never (sym (ap is_some e) ∙ none))
   where
     never : true ≡ false → ⊥
     never h = cc (h)
 
-not_ended : (ed : Edition) → (f : File) (o : Option TokenKind) (ts : List Lexeme) → o ≡ first_kind ts → is_some o ≡ true → run ed 250 (ended f) ts ≡ Refused (fault_of another ts) ts
+not_ended : (ed : Edition) → (f : File) (o : Option TokenKind) (ts : List Lexeme) → o ≡ first_kind ts → is_some o ≡ true → run_parser ed 250 (ended f) ts ≡ Refused (fault_of another ts) ts
 not_ended ed f o [] e some = absurd (never (sym (ap is_some e) ∙ some))
   where
     never : false ≡ true → ⊥
     never h = cc (h)
 not_ended ed f o (t ∷ ts) e some = refuses ed (ended f) another t ts refl
 
-pub refused_end : (before : State) (old new : Parser) (r : Refusal) (f : File) (o : Option TokenKind) →
-    run old.edition 250 before (left old) ≡ run new.edition 250 (ended f) (left new) → o ≡ first_kind (left new) → is_some o ≡ true → Says (fault_of another (left new)) r → Failing r before old new
+pub refused_end : (before : Reader) (old new : Parser) (r : Refusal) (f : File) (o : Option TokenKind) →
+    run_parser old.edition 250 before (left old) ≡ run_parser new.edition 250 (ended f) (left new) → o ≡ first_kind (left new) → is_some o ≡ true → Says (fault_of another (left new)) r → Failing r before old new
 refused_end before old new Memory f o went e some says = absurd says
 refused_end before old new (Wrong x) f o went e some says = went ∙ not_ended new.edition f o (left new) e some ∙ ap (λ n. Refused n (left new)) (sym says)
 
 -- a call that failed, where the function came
-failed : {A : Type 0} {before : State} {after : A → State} {old new : Parser} (r : Result A Refusal) → Reads before after old r new → IfErr r (λ e. Failing e before old new)
+failed : {A : Type 0} {before : Reader} {after : A → Reader} {old new : Parser} (r : Result A Refusal) → Reads before after old r new → IfErr r (λ e. Failing e before old new)
 failed (Ok a) d = tt
 failed (Err e) d = d.by
 
-pub then_stops : {A B : Type 0} (before : State) {mid : State} {after_call : B → State} (old : Parser) {at new : Parser} (r : Result A Refusal) {e : Refusal} →
-    run old.edition 250 before (left old) ≡ run at.edition 250 mid (left at) → Reads {A = B} mid after_call at (Err e) new → IsErrAnd r (λ y. y ≡ e) → IfErr r (λ y. Failing y before old new)
+pub then_stops : {A B : Type 0} (before : Reader) {mid : Reader} {after_call : B → Reader} (old : Parser) {at new : Parser} (r : Result A Refusal) {e : Refusal} →
+    run_parser old.edition 250 before (left old) ≡ run_parser at.edition 250 mid (left at) → Reads {A = B} mid after_call at (Err e) new → IsErrAnd r (λ y. y ≡ e) → IfErr r (λ y. Failing y before old new)
 then_stops before old r went d h = failed {after = λ _. before} r (then_fails went d h)

@@ -1,4 +1,4 @@
 -- Lemmas of the parser of files.
-pub mod Files
+mod Files
 mod Found
-pub mod Imports
+mod Imports

@@ -1,11 +1,11 @@
 //! Reads files.
 ghost use Rattle.std.specs.Prelude.{◌≡◌, ◌≤◌, List, [], map, OnOk, IfOk, IfErr};
 ghost use Rattle.go_ast.specs.Trees as trees;
-ghost use Rattle.go_ast.specs.Machine.{State, imports_at, decls_at, ended, start, Done, run};
+ghost use Rattle.go_ast.specs.Machine.{Reader, read_imports, decls_at, ended, start, Done, run_parser};
 ghost use Rattle.go_ast.specs.Machine as machine;
 ghost use Rattle.go_ast.specs.Views.{import_of, top_of, file_of};
 ghost use Rattle.go_pexpr.specs.Reads.{Reads, Failing, left, size, either};
-ghost use Rattle.go_parse.specs.Files.{declaration_at};
+ghost use Rattle.go_parse.specs.Files.{read_declaration};
 
 use crate::function::function;
 use crate::import::{imports_behind, package_name};
@@ -19,7 +19,7 @@ use go_pstmt::declaration::{constants, types, variables};
 ///
 /// `{ ImportDecl ";" } .`
 fn imports(parser: &mut Parser<'_>) -> Result<Vec<ImportSpec>, Refusal>
-    ensures reads { (p : trees.Name) → Reads (imports_at p []) (λ is. decls_at p (map import_of is.items) []) parser.old result parser.new }
+    ensures reads { (p : trees.Name) → Reads (read_imports p []) (λ is. decls_at p (map import_of is.items) []) parser.old result parser.new }
     ensures no_longer { OnOk result (size parser.new ≤ size parser.old) }
 {
     let mut imports = Vec::new(parser.alloc);
@@ -35,7 +35,7 @@ fn imports(parser: &mut Parser<'_>) -> Result<Vec<ImportSpec>, Refusal>
 ///
 /// `TopLevelDecl = Declaration | FunctionDecl .`
 fn declaration(parser: &mut Parser<'_>) -> Result<Option<TopLevel>, Refusal>
-    ensures reads { (some : trees.TopLevel → State) (none : State) → Reads (declaration_at some none) (either (λ d. some (top_of d)) none) parser.old result parser.new }
+    ensures reads { (some : trees.TopLevel → Reader) (none : Reader) → Reads (read_declaration some none) (either (λ d. some (top_of d)) none) parser.old result parser.new }
     ensures no_longer { OnOk result (size parser.new ≤ size parser.old) }
 {
     if let Some(token) = parser.accept(CONST, 0)? {
@@ -61,7 +61,7 @@ fn declaration(parser: &mut Parser<'_>) -> Result<Option<TopLevel>, Refusal>
 ///
 /// `{ TopLevelDecl ";" } .`
 fn declarations(parser: &mut Parser<'_>) -> Result<Vec<TopLevel>, Refusal>
-    ensures reads { (p : trees.Name) (is : List trees.ImportSpec) → Reads (decls_at p is []) (λ ds. ended (machine.file_of p is (map top_of ds.items))) parser.old result parser.new }
+    ensures reads { (p : trees.Name) (is : List trees.ImportSpec) → Reads (decls_at p is []) (λ ds. ended (machine.to_file p is (map top_of ds.items))) parser.old result parser.new }
 {
     let mut declarations = Vec::new(parser.alloc);
     'declarations: while let Some(declaration) = declaration(parser)? {
@@ -75,7 +75,7 @@ fn declarations(parser: &mut Parser<'_>) -> Result<Vec<TopLevel>, Refusal>
 ///
 /// `SourceFile = PackageClause ";" { ImportDecl ";" } { TopLevelDecl ";" } .` `PackageClause = "package" PackageName .`
 pub fn file(parser: &mut Parser<'_>) -> Result<File, Refusal>
-    ensures ok { IfOk result (λ f. run parser.old.edition 250 start (left parser.old) ≡ Done (file_of f)) }
+    ensures ok { IfOk result (λ f. run_parser parser.old.edition 250 start (left parser.old) ≡ Done (file_of f)) }
     ensures err { IfErr result (λ e. Failing e start parser.old parser.new) }
 {
     parser.expect(PACKAGE, 0, Expected::Another)?;

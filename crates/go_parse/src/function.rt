@@ -1,8 +1,8 @@
 //! Reads functions.
-ghost use Rattle.std.specs.Prelude.{◌≡◌, ◌<◌, ◌≤◌, List, [], ◌∷◌, map, Some, None, OnOk, refl};
+ghost use Rattle.std.specs.Prelude.{◌≡◌, ◌<◌, ◌≤◌, List, map, Some, OnOk, refl};
 ghost use Rattle.go_ast.specs.Expected.{another, a_result_end};
 ghost use Rattle.go_ast.specs.Trees as trees;
-ghost use Rattle.go_ast.specs.Machine.{State, parameters, results, results_at, behind_func};
+ghost use Rattle.go_ast.specs.Machine.{Reader, parameters, results, read_results, behind_func};
 ghost use Rattle.go_ast.specs.Grammar.{Lexeme};
 ghost use Rattle.go_ast.specs.Views.{type_of, parameter_of, function_of};
 ghost use Rattle.go_parse.specs.Files.{parameter_item};
@@ -22,7 +22,7 @@ use go_text::place::Place;
 ///
 /// `ParameterDecl = IdentifierList Type .`
 fn parameter(parser: &mut Parser<'_>) -> Result<Parameter, Refusal>
-    ensures reads { (next : trees.Parameter → State) → Reads (parameter_item next) (λ p. next (parameter_of p)) parser.old result parser.new }
+    ensures reads { (next : trees.Parameter → Reader) → Reads (parameter_item next) (λ p. next (parameter_of p)) parser.old result parser.new }
     ensures shorter { OnOk result (size parser.new < size parser.old) }
 {
     let names = parser.names(1)?;
@@ -94,7 +94,7 @@ impl Items for ResultTypes {
 ///
 /// `Result = Type | "(" [ Type { "," Type } [ "," ] ] ")" .`
 fn results(parser: &mut Parser<'_>) -> Result<Vec<TypeExpr>, Refusal>
-    ensures reads { (next : List trees.TypeExpr → State) → Reads (results_at next) (λ rs. next (map type_of rs.items)) parser.old result parser.new }
+    ensures reads { (next : List trees.TypeExpr → Reader) → Reads (read_results next) (λ rs. next (map type_of rs.items)) parser.old result parser.new }
     ensures no_longer { OnOk result (size parser.new ≤ size parser.old) }
 {
     if let Some(_) = parser.accept(OPENING, 0)? {
@@ -113,7 +113,7 @@ fn results(parser: &mut Parser<'_>) -> Result<Vec<TypeExpr>, Refusal>
 ///
 /// `FunctionDecl = "func" FunctionName Parameters [ Result ] Block .`
 pub(crate) fn function(parser: &mut Parser<'_>, place: Place) -> Result<Function, Refusal>
-    ensures reads { (next : trees.Function → State) (t : Lexeme) → t.place ≡ place → Reads (behind_func next t) (λ f. next (function_of f)) parser.old result parser.new }
+    ensures reads { (next : trees.FunctionDecl → Reader) (t : Lexeme) → t.place ≡ place → Reads (behind_func next t) (λ f. next (function_of f)) parser.old result parser.new }
     ensures shorter { OnOk result (size parser.new < size parser.old) }
 {
     let name = parser.name(0, Expected::FunctionName)?;

@@ -6,7 +6,7 @@ ghost use Rattle.go_text.specs.declared.place.Place.{Place};
 ghost use Rattle.go_scan.specs.declared.token.TokenKind.TheVariants as kinds;
 ghost use Rattle.go_ast.specs.Grammar.{Lexeme};
 ghost use Rattle.go_ast.specs.Literals.{string_value};
-ghost use Rattle.go_ast.specs.Machine.{State, package_name, import_path, import_spec, import_specs, group};
+ghost use Rattle.go_ast.specs.Machine.{Reader, package_name, import_path, import_spec, import_specs, group};
 ghost use Rattle.go_ast.specs.Views.{import_of};
 ghost use Rattle.go_pexpr.specs.Reads.{Reads, First, left, size, lexeme_of, expected_of};
 
@@ -44,7 +44,7 @@ fn is_written(parser: &Parser<'_>, text: &[u8]) -> bool
 ///
 /// `PackageName = identifier .`
 pub(crate) fn package_name(parser: &mut Parser<'_>) -> Result<Name, Refusal>
-    ensures reads { (next : Lexeme → State) → Reads (package_name next) (λ n. next (lexeme_of n)) parser.old result parser.new }
+    ensures reads { (next : Lexeme → Reader) → Reads (package_name next) (λ n. next (lexeme_of n)) parser.old result parser.new }
     ensures shorter { OnOk result (size parser.new < size parser.old) }
 {
     if is_written(parser, b"_") {
@@ -72,7 +72,7 @@ fn next_value(parser: &Parser<'_>) -> Result<Vec<u8>, Refusal>
 ///
 /// `ImportPath = string_lit .`
 fn import_path(parser: &mut Parser<'_>, expected: Expected) -> Result<Path, Refusal>
-    ensures reads { (next : List ℕ → Place → State) → Reads (import_path (expected_of expected) (λ t. next (string_value t.text) t.place)) (λ p. next p.value.items p.place) parser.old result parser.new }
+    ensures reads { (next : List ℕ → Place → Reader) → Reads (import_path (expected_of expected) (λ t. next (string_value t.text) t.place)) (λ p. next p.value.items p.place) parser.old result parser.new }
     ensures shorter { OnOk result (size parser.new < size parser.old) }
 {
     if !parser.is_next(STRING) {
@@ -93,7 +93,7 @@ fn import_path(parser: &mut Parser<'_>, expected: Expected) -> Result<Path, Refu
 ///
 /// `ImportSpec = [ PackageName ] ImportPath .`
 fn import_spec(parser: &mut Parser<'_>) -> Result<ImportSpec, Refusal>
-    ensures reads { (next : trees.ImportSpec → State) → Reads (import_spec next) (λ i. next (import_of i)) parser.old result parser.new }
+    ensures reads { (next : trees.ImportSpec → Reader) → Reads (import_spec next) (λ i. next (import_of i)) parser.old result parser.new }
     ensures shorter { OnOk result (size parser.new < size parser.old) }
 {
     let Some(name) = parser.accept_name(0)? else {
@@ -148,7 +148,7 @@ impl Items for ImportSpecs {
 ///
 /// `ImportDecl = "import" ( ImportSpec | "(" { ImportSpec ";" } ")" ) .`
 pub(crate) fn imports_behind(parser: &mut Parser<'_>) -> Result<Vec<ImportSpec>, Refusal>
-    ensures reads { (next : List trees.ImportSpec → State) → Reads (group import_specs next import_spec) (λ ss. next (map import_of ss.items)) parser.old result parser.new }
+    ensures reads { (next : List trees.ImportSpec → Reader) → Reads (group import_specs next import_spec) (λ ss. next (map import_of ss.items)) parser.old result parser.new }
     ensures shorter { OnOk result (size parser.new < size parser.old) }
 {
     if let Some(_) = parser.accept(OPENING, 0)? {

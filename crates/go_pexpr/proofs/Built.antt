@@ -6,7 +6,7 @@ use Rattle.go_ast.specs.declared.expression.Expr.{Expr}
 use Rattle.go_ast.specs.declared.expression.ExprKind.{ExprKind, Name, Selector, Selector'}
 use Rattle.go_ast.specs.Machine.{name_if, literal_type}
 use Rattle.go_ast.specs.declared.expression.ElementValue.{ElementValue, Expression, Expression', Value'}
-use Rattle.go_pexpr.specs.Next.{is_slice}
+use Rattle.go_pexpr.specs.Next.{is_slice_type}
 use Rattle.go_pexpr.specs.Turns.{key_in}
 use Rattle.go_ast.specs.declared.expression.TypeExpr.{TypeExpr}
 use Rattle.go_ast.specs.declared.expression.TypeKind.{TypeKind, Named, Slice, Slice'}
@@ -22,11 +22,11 @@ type_placed a = by_kind a.kind
     by_kind _ = refl
 
 -- types that aren't slices'
-kind_no_slice : (k : TypeKind) (p : Place) → ((x : _) → k ≡ Slice x → ⊥) → is_slice (type_at k p) ≡ false
+kind_no_slice : (k : TypeKind) (p : Place) → ((x : _) → k ≡ Slice x → ⊥) → is_slice_type (type_at k p) ≡ false
 kind_no_slice (Slice' x q a) p never = absurd (never (record { ptr = x.ptr; alloc = x.alloc; value = record { place = q; kind = a } }) refl)
 kind_no_slice _ p never = refl
 
-pub no_slice : (a : TypeExpr) → ((x : _) → a.kind ≡ Slice x → ⊥) → is_slice (type_of a) ≡ false
+pub no_slice : (a : TypeExpr) → ((x : _) → a.kind ≡ Slice x → ⊥) → is_slice_type (type_of a) ≡ false
 unfolding type_of
 no_slice a never = kind_no_slice a.kind a.place never
 
@@ -48,7 +48,7 @@ pub no_type : (e : Expr) → ((x : _) → e.kind ≡ Name x → ⊥) → ((x y :
 unfolding expr_of
 no_type e never other = kind_no_type e.kind e.place never other
 
-pub no_package : (p : Place) (e : trees.Expr) (n : trees.Name) → name_if e ≡ None → literal_type (trees.selector p e n) ≡ None
+pub no_package : (p : Place) (e : trees.Expression) (n : trees.Name) → name_if e ≡ None → literal_type (trees.selector p e n) ≡ None
 no_package p (trees.name q text) n never = cc (never)
 no_package p _ n never = refl
 

@@ -1,13 +1,13 @@
-pub mod Begins
-pub mod Built
-pub mod ElementTurns
+mod Begins
+mod Built
+mod ElementTurns
 pub mod ListTurns
-pub mod OperatorTurns
-pub mod OptionalTurns
+mod OperatorTurns
+mod OptionalTurns
 pub mod Pushed
 pub mod Reading
 pub mod Stands
 pub mod Steps
-pub mod SuffixTurns
-pub mod TreeStates
-pub mod Turns
+mod SuffixTurns
+mod TreeStates
+mod Turns

@@ -5,11 +5,11 @@ use Rattle.std.proofs.lemmas.Bool.{eqb-true, eqb-false, eq-eqb, leb-true, le-leb
 use Rattle.go_text.specs.declared.edition.Edition.{Edition}
 use Rattle.go_ast.specs.Expected.{Expected, an_operand, another}
 use Rattle.go_ast.specs.Operators.{binary_of, tighter}
-use Rattle.go_ast.specs.Trees.{Expr, binary, place_of}
+use Rattle.go_ast.specs.Trees.{Expression, binary, place_of}
 use Rattle.go_ast.specs.declared.expression.BinaryOperator.{BinaryOperator}
 use Rattle.go_ast.specs.Heights.{height}
 use Rattle.go_ast.specs.Grammar.{Lexeme}
-use Rattle.go_ast.specs.Machine.{State, Move, Take, Fail, token, expr, operators, on_operator, step, cond, run, tails}
+use Rattle.go_ast.specs.Machine.{Reader, Move, Take, Fail, token, expr, operators, on_operator, parser_step, cond, run_parser, tails}
 use Rattle.go_pexpr.specs.Reads.{First}
 use Rattle.go_pexpr.specs.Next.{some_if, of_levels, operator_at}
 use Rattle.go_pexpr.proofs.Steps.{Kind, same_step, same_end, chosen}
@@ -21,27 +21,27 @@ operator_of [] = None
 operator_of (t ∷ ts) = binary_of t.kind
 
 -- operators of so many levels may follow, from one level on
-abbrev pub followed : (m c : ℕ) (h : Bool) (l : ℕ) (next : Expr → State) → Expr → State
+abbrev pub followed : (m c : ℕ) (h : Bool) (l : ℕ) (next : Expression → Reader) → Expression → Reader
 followed m zero h l next e = next e
 followed m (suc c) h l next e = operators m h l e (λ a. followed (suc m) c h l next a)
 
 -- behind an expression of some levels those of the looser ones may follow
-splits_from : (ed : Edition) → (m c n : ℕ) (h : Bool) (l : ℕ) (x : Expected) (next : Expr → State) (ts : List Lexeme) → m + c ≡ n →
-    run ed 250 (expr m h l x (λ a. followed m c h l next a)) ts ≡ run ed 250 (expr 0 h l x (λ a. followed 0 n h l next a)) ts
+splits_from : (ed : Edition) → (m c n : ℕ) (h : Bool) (l : ℕ) (x : Expected) (next : Expression → Reader) (ts : List Lexeme) → m + c ≡ n →
+    run_parser ed 250 (expr m h l x (λ a. followed m c h l next a)) ts ≡ run_parser ed 250 (expr 0 h l x (λ a. followed 0 n h l next a)) ts
 splits_from ed zero c n h l x next ts e =
     let all : c ≡ n = omega (arith, e) in
-    ap (λ j. run ed 250 (expr 0 h l x (λ a. followed 0 j h l next a)) ts) all
+    ap (λ j. run_parser ed 250 (expr 0 h l x (λ a. followed 0 j h l next a)) ts) all
 splits_from ed (suc m) c n h l x next ts e =
     let rest : m + suc c ≡ n = omega (arith, e) in
     splits ed m h l x (λ a. followed (suc m) c h l next a) ts ∙ splits_from ed m (suc c) n h l x next ts rest
 
-pub splits_all : (ed : Edition) → (n : ℕ) (h : Bool) (l : ℕ) (x : Expected) (next : Expr → State) (ts : List Lexeme) →
-    run ed 250 (expr n h l x next) ts ≡ run ed 250 (expr 0 h l x (λ a. followed 0 (n - 0) h l next a)) ts
+pub splits_all : (ed : Edition) → (n : ℕ) (h : Bool) (l : ℕ) (x : Expected) (next : Expression → Reader) (ts : List Lexeme) →
+    run_parser ed 250 (expr n h l x next) ts ≡ run_parser ed 250 (expr 0 h l x (λ a. followed 0 (n - 0) h l next a)) ts
 splits_all ed n h l x next ts =
     let e : n + 0 ≡ n - 0 = omega arith in
     splits_from ed n 0 (n - 0) h l x next ts e
 
-tails_from : (m c n : ℕ) (h : Bool) (l : ℕ) (next : Expr → State) (e : Expr) → m + c ≡ n → tails m h l (λ a. followed m c h l next a) e ≡ followed 0 n h l next e
+tails_from : (m c n : ℕ) (h : Bool) (l : ℕ) (next : Expression → Reader) (e : Expression) → m + c ≡ n → tails m h l (λ a. followed m c h l next a) e ≡ followed 0 n h l next e
 tails_from zero c n h l next e q =
     let all : c ≡ n = omega (arith, q) in
     ap (λ j. followed 0 j h l next e) all
@@ -50,7 +50,7 @@ tails_from (suc m) c n h l next e q =
     tails_from m (suc c) n h l next e rest
 
 -- the operators that may follow are those of all these levels
-pub tails_all : (n : ℕ) (h : Bool) (l : ℕ) (next : Expr → State) (e : Expr) → tails n h l next e ≡ followed 0 (n - 0) h l next e
+pub tails_all : (n : ℕ) (h : Bool) (l : ℕ) (next : Expression → Reader) (e : Expression) → tails n h l next e ≡ followed 0 (n - 0) h l next e
 tails_all n h l next e =
     let q : n + 0 ≡ n - 0 = omega arith in
     tails_from n 0 (n - 0) h l next e q
@@ -64,25 +64,25 @@ not_eqb a b never = by_test (nat_eq a b) refl
     by_test true e = absurd (never (eqb-true a b e))
     by_test false e = e
 
-abbrev taken : ℕ → Bool → ℕ → Expr → (Expr → State) → BinaryOperator → Move
+abbrev taken : ℕ → Bool → ℕ → Expression → (Expression → Reader) → BinaryOperator → Move
 taken n h l a behind op = Take (l + height a) (expr n h (l + 1) an_operand (λ r. behind (binary (place_of a) op a r)))
 
-level_takes : (ed : Edition) → (n : ℕ) (h : Bool) (l : ℕ) (a : Expr) (next : Expr → State) (t : Lexeme) (ts : List Lexeme) (op : BinaryOperator) → binary_of t.kind ≡ Some op → tighter op ≡ n →
-    run ed 250 (operators n h l a next) (t ∷ ts) ≡ run ed 250 (token t.kind (l + height a) another (λ _. expr n h (l + 1) an_operand (λ r. operators n h l (binary (place_of a) op a r) next))) (t ∷ ts)
+level_takes : (ed : Edition) → (n : ℕ) (h : Bool) (l : ℕ) (a : Expression) (next : Expression → Reader) (t : Lexeme) (ts : List Lexeme) (op : BinaryOperator) → binary_of t.kind ≡ Some op → tighter op ≡ n →
+    run_parser ed 250 (operators n h l a next) (t ∷ ts) ≡ run_parser ed 250 (token t.kind (l + height a) another (λ _. expr n h (l + 1) an_operand (λ r. operators n h l (binary (place_of a) op a r) next))) (t ∷ ts)
 level_takes ed n h l a next t ts op q e =
-    let behind = λ (r : Expr). operators n h l r next in
+    let behind = λ (r : Expression). operators n h l r next in
     same_step ed (operators n h l a next) (token t.kind (l + height a) another (λ _. expr n h (l + 1) an_operand (λ r. behind (binary (place_of a) op a r)))) t ts (
-    ap (on_operator n h l a behind (step ed (next a) t)) q
-    ∙ ap (λ b. cond b (taken n h l a behind op) (step ed (next a) t)) (eq-eqb (tighter op) n e)
+    ap (on_operator n h l a behind (parser_step ed (next a) t)) q
+    ∙ ap (λ b. cond b (taken n h l a behind op) (parser_step ed (next a) t)) (eq-eqb (tighter op) n e)
     ∙ sym (chosen t.kind t (taken n h l a behind op) (Fail another) refl))
 
-by_operator : (n : ℕ) (h : Bool) (l : ℕ) (a : Expr) (behind : Expr → State) (other : Move) (o : Option BinaryOperator) → ((op : BinaryOperator) → o ≡ Some op → tighter op ≡ n → ⊥) → on_operator n h l a behind other o ≡ other
+by_operator : (n : ℕ) (h : Bool) (l : ℕ) (a : Expression) (behind : Expression → Reader) (other : Move) (o : Option BinaryOperator) → ((op : BinaryOperator) → o ≡ Some op → tighter op ≡ n → ⊥) → on_operator n h l a behind other o ≡ other
 by_operator n h l a behind other None never = refl
 by_operator n h l a behind other (Some op) never = ap (λ b. cond b (taken n h l a behind op) other) (not_eqb (tighter op) n (never op refl))
 
-level_ends : (ed : Edition) → (n : ℕ) (h : Bool) (l : ℕ) (a : Expr) (next : Expr → State) (ts : List Lexeme) → ((op : BinaryOperator) → operator_of ts ≡ Some op → tighter op ≡ n → ⊥) → run ed 250 (operators n h l a next) ts ≡ run ed 250 (next a) ts
+level_ends : (ed : Edition) → (n : ℕ) (h : Bool) (l : ℕ) (a : Expression) (next : Expression → Reader) (ts : List Lexeme) → ((op : BinaryOperator) → operator_of ts ≡ Some op → tighter op ≡ n → ⊥) → run_parser ed 250 (operators n h l a next) ts ≡ run_parser ed 250 (next a) ts
 level_ends ed n h l a next [] never = same_end ed (operators n h l a next) (next a) refl
-level_ends ed n h l a next (t ∷ ts) never = same_step ed (operators n h l a next) (next a) t ts (by_operator n h l a (λ r. operators n h l r next) (step ed (next a) t) (binary_of t.kind) never)
+level_ends ed n h l a next (t ∷ ts) never = same_step ed (operators n h l a next) (next a) t ts (by_operator n h l a (λ r. operators n h l r next) (parser_step ed (next a) t) (binary_of t.kind) never)
 
 -- which operator is next
 
@@ -111,21 +111,21 @@ levels_none m n (Some x) q op e le lt =
 
 -- some levels
 
-due_at : (ed : Edition) → (i m j c : ℕ) (h : Bool) (l : ℕ) (a : Expr) (next : Expr → State) (t : Lexeme) (ts : List Lexeme) (op : BinaryOperator) → binary_of t.kind ≡ Some op → tighter op ≡ j → m ≤ j → i + m ≡ j + suc c →
-    run ed 250 (followed m i h l next a) (t ∷ ts) ≡ run ed 250 (token t.kind (l + height a) another (λ _. expr j h (l + 1) an_operand (λ r. followed j (suc c) h l next (binary (place_of a) op a r)))) (t ∷ ts)
+due_at : (ed : Edition) → (i m j c : ℕ) (h : Bool) (l : ℕ) (a : Expression) (next : Expression → Reader) (t : Lexeme) (ts : List Lexeme) (op : BinaryOperator) → binary_of t.kind ≡ Some op → tighter op ≡ j → m ≤ j → i + m ≡ j + suc c →
+    run_parser ed 250 (followed m i h l next a) (t ∷ ts) ≡ run_parser ed 250 (token t.kind (l + height a) another (λ _. expr j h (l + 1) an_operand (λ r. followed j (suc c) h l next (binary (place_of a) op a r)))) (t ∷ ts)
 due_at ed zero m j c h l a next t ts op q e le all = absurd (omega (arith, le, all))
 due_at ed (suc i) m j c h l a next t ts op q e le all = by_test (λ more rest. due_at ed i (suc m) j c h l a next t ts op q e more rest) (nat_eq m j) refl
   where
-    due : State
+    due : Reader
     due = token t.kind (l + height a) another (λ _. expr j h (l + 1) an_operand (λ r. followed j (suc c) h l next (binary (place_of a) op a r)))
 
-    by_test : (suc m ≤ j → i + suc m ≡ j + suc c → run ed 250 (followed (suc m) i h l next a) (t ∷ ts) ≡ run ed 250 due (t ∷ ts)) → (b : Bool) → nat_eq m j ≡ b → run ed 250 (followed m (suc i) h l next a) (t ∷ ts) ≡ run ed 250 due (t ∷ ts)
+    by_test : (suc m ≤ j → i + suc m ≡ j + suc c → run_parser ed 250 (followed (suc m) i h l next a) (t ∷ ts) ≡ run_parser ed 250 due (t ∷ ts)) → (b : Bool) → nat_eq m j ≡ b → run_parser ed 250 (followed m (suc i) h l next a) (t ∷ ts) ≡ run_parser ed 250 due (t ∷ ts)
     by_test again true f =
         let here : m ≡ j = eqb-true m j f in
         let over : suc i ≡ suc c = omega (arith, here, all) in
         level_takes ed m h l a (λ r. followed (suc m) i h l next r) t ts op q (e ∙ sym here)
-        ∙ ap (λ k. run ed 250 (token t.kind (l + height a) another (λ _. expr k h (l + 1) an_operand (λ r. followed k (suc i) h l next (binary (place_of a) op a r)))) (t ∷ ts)) here
-        ∙ ap (λ k. run ed 250 (token t.kind (l + height a) another (λ _. expr j h (l + 1) an_operand (λ r. followed j k h l next (binary (place_of a) op a r)))) (t ∷ ts)) over
+        ∙ ap (λ k. run_parser ed 250 (token t.kind (l + height a) another (λ _. expr k h (l + 1) an_operand (λ r. followed k (suc i) h l next (binary (place_of a) op a r)))) (t ∷ ts)) here
+        ∙ ap (λ k. run_parser ed 250 (token t.kind (l + height a) another (λ _. expr j h (l + 1) an_operand (λ r. followed j k h l next (binary (place_of a) op a r)))) (t ∷ ts)) over
     by_test again false f =
         let other : m ≡ j → ⊥ = eqb-false m j f in
         let more : suc m ≤ j = omega (arith, le, other) in
@@ -133,7 +133,7 @@ due_at ed (suc i) m j c h l a next t ts op q e le all = by_test (λ more rest. d
         level_ends ed m h l a (λ r. followed (suc m) i h l next r) (t ∷ ts) (λ x p k. let same : x ≡ op = cc (p, q) in other (sym k ∙ ap tighter same ∙ e))
         ∙ again more rest
 
-ends_at : (ed : Edition) → (c m : ℕ) (h : Bool) (l : ℕ) (a : Expr) (next : Expr → State) (ts : List Lexeme) → ((op : BinaryOperator) → operator_of ts ≡ Some op → m ≤ tighter op → tighter op < c + m → ⊥) → run ed 250 (followed m c h l next a) ts ≡ run ed 250 (next a) ts
+ends_at : (ed : Edition) → (c m : ℕ) (h : Bool) (l : ℕ) (a : Expression) (next : Expression → Reader) (ts : List Lexeme) → ((op : BinaryOperator) → operator_of ts ≡ Some op → m ≤ tighter op → tighter op < c + m → ⊥) → run_parser ed 250 (followed m c h l next a) ts ≡ run_parser ed 250 (next a) ts
 ends_at ed zero m h l a next ts never = refl
 ends_at ed (suc c) m h l a next ts never =
     level_ends ed m h l a (λ r. followed (suc m) c h l next r) ts (λ op p i. never op p (omega (arith, i)) (omega (arith, i)))
@@ -151,8 +151,8 @@ operator_within m n (t ∷ ts) op q =
     let f = levels_some m n (binary_of t.kind) op q in
     (f.1, f.2)
 
-pub operator_due : (ed : Edition) → (m n j k : ℕ) (h : Bool) (l : ℕ) (a : Expr) (next : Expr → State) (ts : List Lexeme) (op : BinaryOperator) → operator_at m n ts ≡ Some op → j ≡ tighter op → k ≡ height a →
-    run ed 250 (followed m (n - m) h l next a) ts ≡ run ed 250 (token (kind_at ts) (l + k) another (λ _. expr j h (l + 1) an_operand (λ r. followed j (n - j) h l next (binary (place_of a) op a r)))) ts
+pub operator_due : (ed : Edition) → (m n j k : ℕ) (h : Bool) (l : ℕ) (a : Expression) (next : Expression → Reader) (ts : List Lexeme) (op : BinaryOperator) → operator_at m n ts ≡ Some op → j ≡ tighter op → k ≡ height a →
+    run_parser ed 250 (followed m (n - m) h l next a) ts ≡ run_parser ed 250 (token (kind_at ts) (l + k) another (λ _. expr j h (l + 1) an_operand (λ r. followed j (n - j) h l next (binary (place_of a) op a r)))) ts
 operator_due ed m n j k h l a next [] op q s u = cc (q)
 operator_due ed m n j k h l a next (t ∷ ts) op q s u =
     let f = levels_some m n (binary_of t.kind) op q in
@@ -161,12 +161,12 @@ operator_due ed m n j k h l a next (t ∷ ts) op q s u =
     let all : n - m + m ≡ j + suc c = omega (arith, f.1, f.2, s) in
     let over : suc c ≡ n - j = omega (arith, f.2, s) in
     due_at ed (n - m) m j c h l a next t ts op f.0 (sym s) le all
-    ∙ ap (λ i. run ed 250 (token t.kind (l + height a) another (λ _. expr j h (l + 1) an_operand (λ r. followed j i h l next (binary (place_of a) op a r)))) (t ∷ ts)) over
-    ∙ ap (λ i. run ed 250 (token t.kind (l + i) another (λ _. expr j h (l + 1) an_operand (λ r. followed j (n - j) h l next (binary (place_of a) op a r)))) (t ∷ ts)) (sym u)
+    ∙ ap (λ i. run_parser ed 250 (token t.kind (l + height a) another (λ _. expr j h (l + 1) an_operand (λ r. followed j i h l next (binary (place_of a) op a r)))) (t ∷ ts)) over
+    ∙ ap (λ i. run_parser ed 250 (token t.kind (l + i) another (λ _. expr j h (l + 1) an_operand (λ r. followed j (n - j) h l next (binary (place_of a) op a r)))) (t ∷ ts)) (sym u)
 
 none_at : (m n : ℕ) (ts : List Lexeme) → operator_at m n ts ≡ None → (op : BinaryOperator) → operator_of ts ≡ Some op → m ≤ tighter op → tighter op < n → ⊥
 none_at m n [] q op e = cc (e)
 none_at m n (t ∷ ts) q op e = levels_none m n (binary_of t.kind) q op e
 
-pub operators_end : (ed : Edition) → (m n : ℕ) (h : Bool) (l : ℕ) (a : Expr) (next : Expr → State) (ts : List Lexeme) → m ≤ n → operator_at m n ts ≡ None → run ed 250 (followed m (n - m) h l next a) ts ≡ run ed 250 (next a) ts
+pub operators_end : (ed : Edition) → (m n : ℕ) (h : Bool) (l : ℕ) (a : Expression) (next : Expression → Reader) (ts : List Lexeme) → m ≤ n → operator_at m n ts ≡ None → run_parser ed 250 (followed m (n - m) h l next a) ts ≡ run_parser ed 250 (next a) ts
 operators_end ed m n h l a next ts le q = ends_at ed (n - m) m h l a next ts (λ op p ge lt. none_at m n ts q op p ge (omega (arith, lt, le)))

@@ -76,6 +76,6 @@ left_out_at x [] = false
 left_out_at x (t ∷ ts) = is_left_out_at x t.kind
 
 -- a type of slices
-abbrev pub is_slice : TypeExpr → Bool
-is_slice (slice p a) = true
-is_slice a = false
+abbrev pub is_slice_type : TypeExpr → Bool
+is_slice_type (slice p a) = true
+is_slice_type a = false

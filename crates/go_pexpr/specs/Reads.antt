@@ -7,7 +7,7 @@ use Rattle.go_scan.specs.declared.token.TokenKind.TheVariants as kinds
 use Rattle.go_ast.specs.Expected as expected
 use Rattle.go_ast.specs.Trees.{Name}
 use Rattle.go_ast.specs.Grammar.{Lexeme}
-use Rattle.go_ast.specs.Machine.{State, Refused, run}
+use Rattle.go_ast.specs.Machine.{Reader, Refused, run_parser}
 use Rattle.go_ast.specs.Tokens.{lexemes}
 use Rattle.go_pexpr.specs.declared.expected.Expected.{Expected}
 use Rattle.go_pexpr.specs.declared.expected.Expected.TheVariants as code
@@ -77,34 +77,34 @@ Says n Memory = ⊥
 Says n (Wrong f) = number f ≡ n
 
 -- what is due behind what there may be
-abbrev pub either : {A : Type 0} → (A → State) → State → Option A → State
+abbrev pub either : {A : Type 0} → (A → Reader) → Reader → Option A → Reader
 either some none None = none
 either some none (Some a) = some a
 
-abbrev pub Failing : Refusal → State → Parser → Parser → Type 0
-Failing (Wrong f) before old new = run old.edition 250 before (left old) ≡ Refused (number f) (left new)
+abbrev pub Failing : Refusal → Reader → Parser → Parser → Type 0
+Failing (Wrong f) before old new = run_parser old.edition 250 before (left old) ≡ Refused (number f) (left new)
 Failing Memory before old new = Unit {0}
 
-abbrev pub Reading : {A : Type 0} → State → (A → State) → Parser → Result A Refusal → Parser → Type 0
-Reading before after old (Ok a) new = run old.edition 250 before (left old) ≡ run new.edition 250 (after a) (left new)
+abbrev pub Reading : {A : Type 0} → Reader → (A → Reader) → Parser → Result A Refusal → Parser → Type 0
+Reading before after old (Ok a) new = run_parser old.edition 250 before (left old) ≡ run_parser new.edition 250 (after a) (left new)
 Reading before after old (Err e) new = Failing e before old new
 
 -- a state without slices that refuses a token which came with them, as what is left out where this is expected
-abbrev pub Refusing : Edition → TokenKind → expected.Expected → State → Type 0
-Refusing e k x s = has_slices e ≡ false → (ts : List Lexeme) → First (λ t. t.kind ≡ k) ts → run e 250 s ts ≡ Refused (fault_of x ts) ts
+abbrev pub Refusing : Edition → TokenKind → expected.Expected → Reader → Type 0
+Refusing e k x s = has_slices e ≡ false → (ts : List Lexeme) → First (λ t. t.kind ≡ k) ts → run_parser e 250 s ts ≡ Refused (fault_of x ts) ts
 
 -- the next token is of this kind
 abbrev pub IsNext : TokenKind → Parser → Type 0
 IsNext k r = First (λ t. t.kind ≡ k) (left r)
 
 -- From one state and the tokens of old it came to another state and the tokens of new, or failed.
-pub record Reads {A : Type 0} (before : State) (after : A → State) (old : Parser) (result : Result A Refusal) (new : Parser) : Type 0 where
+pub record Reads {A : Type 0} (before : Reader) (after : A → Reader) (old : Parser) (result : Result A Refusal) (new : Parser) : Type 0 where
   pub by : Reading before after old result new
 
 -- what a function reads, seen so, is what this state is due in front of, whatever is due behind it
-abbrev pub ReadsAs : {A B : Type 0} → (A → B) → ((B → State) → State) → Parser → Result A Refusal → Parser → Type 0
-ReadsAs {A} {B} seen due old result new = (next : B → State) → Reads (due next) (λ a. next (seen a)) old result new
+abbrev pub ReadsAs : {A B : Type 0} → (A → B) → ((B → Reader) → Reader) → Parser → Result A Refusal → Parser → Type 0
+ReadsAs {A} {B} seen due old result new = (next : B → Reader) → Reads (due next) (λ a. next (seen a)) old result new
 
 -- the same where there may be nothing to read
-abbrev pub ReadsIf : {A B : Type 0} → (A → B) → ((B → State) → State → State) → Parser → Result (Option A) Refusal → Parser → Type 0
-ReadsIf {A} {B} seen due old result new = (some : B → State) (none : State) → Reads (due some none) (either (λ a. some (seen a)) none) old result new
+abbrev pub ReadsIf : {A B : Type 0} → (A → B) → ((B → Reader) → Reader → Reader) → Parser → Result (Option A) Refusal → Parser → Type 0
+ReadsIf {A} {B} seen due old result new = (some : B → Reader) (none : Reader) → Reads (due some none) (either (λ a. some (seen a)) none) old result new

@@ -1,6 +1,7 @@
 //! Reads what is in the brackets behind an operand.
 ghost use Rattle.std.specs.Prelude.{◌<◌, ◌≤◌, ◌+◌, IfOk, OnOk};
 ghost use Rattle.go_ast.specs.Trees as trees;
+ghost use Rattle.go_ast.specs.Trees.{Expression};
 ghost use Rattle.go_ast.specs.Expected.{another};
 ghost use Rattle.go_ast.specs.Grammar.{opening_bracket};
 ghost use Rattle.go_ast.specs.Machine.{token, behind_colon};
@@ -50,7 +51,7 @@ impl<'a> Parser<'a> {
     #[cycle(tree)]
     fn in_brackets(&mut self, need: u32, level: u32) -> Result<Inside, Refusal>
         requires { level ≤ need }
-        ensures reads { (e : trees.Expr) → ReadsAs (inside_of e) (λ next. token opening_bracket need another (behind_index level e next)) self.old result self.new }
+        ensures reads { (e : Expression) → ReadsAs (inside_of e) (λ next. token opening_bracket need another (behind_index level e next)) self.old result self.new }
         ensures need { OnOk result (need ≤ 250) }
         ensures fits { IfOk result (λ i. level + 1 + inside_tall i ≤ 251) }
         ensures shorter { OnOk result (size self.new < size self.old) }
@@ -73,7 +74,7 @@ impl<'a> Parser<'a> {
     fn index_end(&mut self, first: Tall, level: u32) -> Result<Inside, Refusal>
         requires level { level ≤ 250 }
         requires fits { level + 1 + first.height ≤ 251 }
-        ensures reads { (e : trees.Expr) → ReadsAs (inside_of e) (λ next. index_ends level e next (expr_of first.expr)) self.old result self.new }
+        ensures reads { (e : Expression) → ReadsAs (inside_of e) (λ next. index_ends level e next (expr_of first.expr)) self.old result self.new }
         ensures fits { IfOk result (λ i. level + 1 + inside_tall i ≤ 251) }
         ensures shorter { OnOk result (size self.new < size self.old) }
     {
@@ -95,7 +96,7 @@ impl<'a> Parser<'a> {
     #[cycle(tree)]
     fn high(&mut self, level: u32) -> Result<TallBound, Refusal>
         requires { level ≤ 250 }
-        ensures reads { (e : trees.Expr) (low : trees.Bound) → ReadsAs (λ b. trees.cut (trees.place_of e) e low (bound_of b.bound)) (behind_colon level e low) self.old result self.new }
+        ensures reads { (e : Expression) (low : trees.Bound) → ReadsAs (λ b. trees.cut (trees.place_of e) e low (bound_of b.bound)) (behind_colon level e low) self.old result self.new }
         ensures fits { IfOk result (λ b. level + 1 + b.height ≤ 251) }
         ensures shorter { OnOk result (size self.new < size self.old) }
     {

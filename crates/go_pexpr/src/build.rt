@@ -1,5 +1,5 @@
 //! Makes trees from their parts, and counts their levels.
-ghost use Rattle.std.specs.Prelude.{◌≡◌, ℕ, ◌+◌, ◌<◌, ◌≤◌, [], ◌∷◌, max, map, IfOk, IfErr, Ok, Err, Option, Some, None};
+ghost use Rattle.std.specs.Prelude.{◌≡◌, ◌+◌, ◌<◌, ◌≤◌, [], ◌∷◌, max, map, IfOk, IfErr, Ok, Err, Option, Some, None};
 ghost use Rattle.go_ast.specs.Trees as trees;
 ghost use Rattle.go_ast.specs.Grammar.{type_place};
 ghost use Rattle.go_ast.specs.Views.{type_of, expr_of, bound_of, exprs_in, element_of, field_of, value_of, if_some};

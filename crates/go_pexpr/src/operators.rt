@@ -4,7 +4,7 @@ ghost use Rattle.go_ast.specs.Operators as operators;
 ghost use Rattle.go_ast.specs.Machine.{literal_type, is_some, begins_type, begins_expr};
 ghost use Rattle.go_ast.specs.Views.{type_of, expr_of};
 ghost use Rattle.go_pexpr.specs.Reads.{left};
-ghost use Rattle.go_pexpr.specs.Next.{sign_at, operator_at, suffix_at, beginning_of, beginning_at, type_begins, expr_begins, is_slice};
+ghost use Rattle.go_pexpr.specs.Next.{sign_at, operator_at, suffix_at, beginning_of, beginning_at, type_begins, expr_begins, is_slice_type};
 
 use crate::parser::Parser;
 use go_ast::expression::{BinaryOperator, Expr, ExprKind, TypeExpr, TypeKind, UnaryOperator};
@@ -165,7 +165,7 @@ pub(crate) fn is_type(expr: &Expr) -> bool
 
 /// Whether a type is one of slices.
 pub(crate) fn is_slice(a: &TypeExpr) -> bool
-    ensures { result ≡ is_slice (type_of a.now) }
+    ensures { result ≡ is_slice_type (type_of a.now) }
 {
     matches!(a.kind, TypeKind::Slice(_))
 }

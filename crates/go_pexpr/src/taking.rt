@@ -6,7 +6,7 @@ ghost use Rattle.go_ast.specs.Grammar.{period};
 ghost use Rattle.go_ast.specs.Expected.{another, a_selected_name, is_never_read, begins_left_out, begins_left_out_type, is_left_out_at};
 ghost use Rattle.go_ast.specs.Machine.{token, optional, names};
 ghost use Rattle.go_ast.specs.Tokens.{LiesIn};
-ghost use Rattle.go_ast.specs.Tokens.{lexeme, bytes_of};
+ghost use Rattle.go_ast.specs.Tokens.{lexeme, lexeme_bytes};
 ghost use Rattle.go_pexpr.specs.Next.{left_out_at};
 ghost use Rattle.go_pexpr.specs.Reads.{Says, First, first_kind, fault_of, left, size, lexeme_of, expected_of, ReadsAs, ReadsIf};
 ghost use Rattle.go_pexpr.specs.Taking.{TakesNext, TakesNewer, Separates};
@@ -106,7 +106,7 @@ fn is_left_out_at(expected: Expected, kind: TokenKind) -> bool
 /// The bytes of a token.
 pub fn spelling(text: &[u8], token: Token) -> &[u8]
     requires { LiesIn text.now token }
-    ensures { result.now ≡ bytes_of text.now token }
+    ensures { result.now ≡ lexeme_bytes text.now token }
 {
     &text[token.start as usize..token.end as usize]
 }
@@ -244,7 +244,7 @@ impl<'a> Parser<'a> {
     pub(crate) fn text_of(&self, token: Token) -> Result<Spelling, Refusal>
         requires stands { LiesIn self.now.text.now token }
         requires kind { (token.kind ≡ kinds.Name) ⊎ (token.kind ≡ kinds.Integer) }
-        ensures ok { IfOk result (λ s. s ≡ bytes_of self.now.text.now token) }
+        ensures ok { IfOk result (λ s. s ≡ lexeme_bytes self.now.text.now token) }
         ensures err { IfErr result (λ e. e ≡ Refusal.Memory) }
     {
         let text = text_from(self.alloc, spelling(self.text, token))?;

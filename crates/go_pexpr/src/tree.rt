@@ -5,12 +5,12 @@ ghost use Rattle.go_ast.specs.Trees as trees;
 ghost use Rattle.go_scan.specs.declared.keyword.Keyword.TheVariants as keywords;
 ghost use Rattle.go_ast.specs.Expected.{an_operand, another};
 ghost use Rattle.go_ast.specs.Grammar.{opening, closing, opening_bracket, period, comma, colon};
-ghost use Rattle.go_ast.specs.Machine.{State, token, optional, names, type, expr, operands, suffixes, tails, list_start, fields, arguments, elements, keyword, behind_bracket, behind_struct, behind_literal_type, behind_operand, behind_operand_type, literal_type};
+ghost use Rattle.go_ast.specs.Machine.{Reader, token, optional, names, type, expr, operands, suffixes, tails, list_start, fields, arguments, elements, keyword, behind_bracket, behind_struct, behind_literal_type, behind_operand, behind_operand_type, literal_type};
 ghost use Rattle.go_ast.specs.Views.{type_of, expr_of, value_of, element_of, field_of};
-ghost use Rattle.go_pexpr.specs.Next.{sign_at, is_slice};
+ghost use Rattle.go_pexpr.specs.Next.{sign_at, is_slice_type};
 ghost use Rattle.go_pexpr.specs.Reading.{ReadsExpr, ReadsType, ReadsExprs, ReadsPlaced, ReadsBehindNext, ReadsOperand, ReadsFirst, ReadsField, ReadsElement, ReadsBraced};
 ghost use Rattle.go_pexpr.specs.Reads.{Reads, left, size, expected_of, ReadsAs};
-ghost use Rattle.go_pexpr.specs.Turns.{behind_conversion, behind_paren, behind_selector, conversion_or_type, behind_call, value_at, literal_at, literal_then, between};
+ghost use Rattle.go_pexpr.specs.Turns.{behind_conversion, behind_paren, behind_selector, conversion_or_type, behind_call, read_value, literal_at, literal_then, between};
 
 use crate::build::{
     Arguments, Elements, Fields, Tall, TallElement, TallType, TallValue, array, beside, binary,
@@ -339,7 +339,7 @@ impl<'a> Parser<'a> {
     #[cycle(tree)]
     fn literal_or_conversion(&mut self, a: TallType, level: u32) -> Result<Tall, Refusal>
         requires { level + 1 + a.height ≤ 251 }
-        ensures reads { is_slice (type_of a.type_expr) ≡ false → ReadsExpr (λ next. behind_literal_type level next (type_of a.type_expr)) self.old result self.new }
+        ensures reads { is_slice_type (type_of a.type_expr) ≡ false → ReadsExpr (λ next. behind_literal_type level next (type_of a.type_expr)) self.old result self.new }
         ensures fits { IfOk result (λ e. level + e.height ≤ 251) }
         ensures shorter { OnOk result (size self.new < size self.old) }
     {
@@ -405,7 +405,7 @@ impl<'a> Parser<'a> {
     ///
     /// `[ "," ] ")" .`
     fn converted_end(&mut self) -> Result<(), Refusal>
-        ensures reads { (next : State) → Reads (optional comma 0 (λ _. token closing 0 another (λ _. next)) (token closing 0 another (λ _. next))) (λ _. next) self.old result self.new }
+        ensures reads { (next : Reader) → Reads (optional comma 0 (λ _. token closing 0 another (λ _. next)) (token closing 0 another (λ _. next))) (λ _. next) self.old result self.new }
         ensures shorter { OnOk result (size self.new < size self.old) }
     {
         let comma = TokenKind::Punctuation(Punctuation::Comma);
@@ -719,7 +719,7 @@ impl<'a> Parser<'a> {
     #[cycle(tree)]
     fn keyed(&mut self, level: u32) -> Result<TallValue, Refusal>
         requires { level ≤ 252 }
-        ensures reads { ReadsAs (λ v. value_of v.value) (λ next. token colon 0 another (λ _. value_at level next)) self.old result self.new }
+        ensures reads { ReadsAs (λ v. value_of v.value) (λ next. token colon 0 another (λ _. read_value level next)) self.old result self.new }
         ensures fits { IfOk result (λ v. level + v.height ≤ 251) }
         ensures shorter { OnOk result (size self.new < size self.old) }
     {
@@ -734,7 +734,7 @@ impl<'a> Parser<'a> {
     #[cycle(tree)]
     fn value(&mut self, level: u32) -> Result<TallValue, Refusal>
         requires { level ≤ 252 }
-        ensures reads { ReadsAs (λ v. value_of v.value) (value_at level) self.old result self.new }
+        ensures reads { ReadsAs (λ v. value_of v.value) (read_value level) self.old result self.new }
         ensures fits { IfOk result (λ v. level + v.height ≤ 251) }
         ensures shorter { OnOk result (size self.new < size self.old) }
     {

@@ -13,7 +13,7 @@ use Rattle.go_ast.specs.Trees as trees
 use Rattle.go_ast.specs.Expected.{Expected, another, an_operand, a_value}
 use Rattle.go_ast.specs.Grammar.{Lexeme, comma, assign, define, opening_brace, is_call}
 use Rattle.go_ast.specs.Machine as machine
-use Rattle.go_ast.specs.Machine.{State, token, expr, more_exprs, lefts, Move, Take, Fail, cond, step, final, final_if, Refused, run, keyword, names_if, may_define, is_header, on_define, behind_define, short_var_decl_values, on_assignment, behind_left}
+use Rattle.go_ast.specs.Machine.{Reader, token, expr, more_exprs, lefts, Move, Take, Fail, cond, parser_step, final, final_if, Refused, run_parser, keyword, names_if, may_define, is_header, on_define, behind_define, short_var_decl_values, on_assignment, behind_left}
 use Rattle.go_ast.specs.Views.{expr_of, exprs_in, if_some}
 use Rattle.go_ast.specs.Expected as expected
 use Rattle.go_ast.proofs.Rows.{placed}
@@ -23,7 +23,7 @@ use Rattle.go_pexpr.specs.Reads.{First, first_kind, fault_of}
 use Rattle.go_pexpr.proofs.Steps.{Kind, same_step, same_end, same_at, passed, chosen, refuses, end_refuses, optional_some, optional_none}
 use Rattle.go_pstmt.specs.declared.simple.Position.{Position}
 use Rattle.go_pstmt.specs.declared.simple.Position.TheVariants as position
-use Rattle.go_pstmt.specs.Statements.{Does, on_one, on_alone, at_one, assigned, position_of, is_bare}
+use Rattle.go_pstmt.specs.Statements.{Does, on_one, on_alone, at_one, assignment_operator, position_of, is_bare}
 
 pub false_true : false ≡ true → ⊥
 false_true e = cc (e)
@@ -45,31 +45,31 @@ pub same_only : {X : Type 0} (xs : List X) (x y : X) → xs ≡ x ∷ [] → xs 
 same_only xs x y e f = sym (ap (first_or x) e) ∙ ap (first_or x) f
 
 -- what a state does with a token of a kind, another does too
-pub does_at : (ed : Edition) → (before s : State) (on : Lexeme → Move) (end : Option trees.File) (k : TokenKind) (ts : List Lexeme) → Does ed before on end ts → First (Kind k) ts →
-    ((text : List ℕ) (p : Place) → on (record { kind = k; text = text; place = p }) ≡ step ed s (record { kind = k; text = text; place = p })) → run ed 250 before ts ≡ run ed 250 s ts
+pub does_at : (ed : Edition) → (before s : Reader) (on : Lexeme → Move) (end : Option trees.File) (k : TokenKind) (ts : List Lexeme) → Does ed before on end ts → First (Kind k) ts →
+    ((text : List ℕ) (p : Place) → on (record { kind = k; text = text; place = p }) ≡ parser_step ed s (record { kind = k; text = text; place = p })) → run_parser ed 250 before ts ≡ run_parser ed 250 s ts
 does_at ed before s on end k [] d f e = absurd f
 does_at ed before s on end k (t ∷ ts) d f e =
-    let P : TokenKind → Type 0 = λ j. on (record { kind = j; text = t.text; place = t.place }) ≡ step ed s (record { kind = j; text = t.text; place = t.place }) in
+    let P : TokenKind → Type 0 = λ j. on (record { kind = j; text = t.text; place = t.place }) ≡ parser_step ed s (record { kind = j; text = t.text; place = t.place }) in
     same_step ed before s t ts (d ∙ subst P (sym f) (e t.text t.place))
 
 -- and with any
-pub does_as : (ed : Edition) → (before s : State) (on : Lexeme → Move) (end : Option trees.File) (ts : List Lexeme) → Does ed before on end ts → Does ed s on end ts → run ed 250 before ts ≡ run ed 250 s ts
+pub does_as : (ed : Edition) → (before s : Reader) (on : Lexeme → Move) (end : Option trees.File) (ts : List Lexeme) → Does ed before on end ts → Does ed s on end ts → run_parser ed 250 before ts ≡ run_parser ed 250 s ts
 does_as ed before s on end [] d e = same_end ed before s (d ∙ sym e)
 does_as ed before s on end (t ∷ ts) d e = same_step ed before s t ts (d ∙ sym e)
 
-pub does_refuse : (ed : Edition) → (before : State) (on : Lexeme → Move) (x : Expected) (ts : List Lexeme) → Does ed before (λ t. Fail x) None ts → run ed 250 before ts ≡ Refused (fault_of x ts) ts
+pub does_refuse : (ed : Edition) → (before : Reader) (on : Lexeme → Move) (x : Expected) (ts : List Lexeme) → Does ed before (λ t. Fail x) None ts → run_parser ed 250 before ts ≡ Refused (fault_of x ts) ts
 does_refuse ed before on x [] d = end_refuses ed before d
 does_refuse ed before on x (t ∷ ts) d = refuses ed before x t ts d
 
-module _ (ed : Edition) (m : machine.Position) (h : Bool) (l : ℕ) (next : trees.Simple → State) (alone : trees.Expr → State) (range : trees.Name → trees.Expr → State) where
-  pub lefts_comma : (front : List trees.Expr) (ts : List Lexeme) → 1 ≤ length front → First (Kind comma) ts →
-      run ed 250 (lefts m h l front next alone range) ts ≡ run ed 250 (token comma 0 another (λ _. expr 5 h l an_operand (λ e. lefts m h l (front ++ e ∷ []) next alone range))) ts
+module _ (ed : Edition) (m : machine.Position) (h : Bool) (l : ℕ) (next : trees.Simple → Reader) (alone : trees.Expression → Reader) (range : trees.Name → trees.Expression → Reader) where
+  pub lefts_comma : (front : List trees.Expression) (ts : List Lexeme) → 1 ≤ length front → First (Kind comma) ts →
+      run_parser ed 250 (lefts m h l front next alone range) ts ≡ run_parser ed 250 (token comma 0 another (λ _. expr 5 h l an_operand (λ e. lefts m h l (front ++ e ∷ []) next alone range))) ts
   lefts_comma [] ts le f = absurd (omega arith)
   lefts_comma (e ∷ []) ts le f = same_at ed _ _ comma ts f (λ text p. refl)
   lefts_comma (e ∷ d ∷ es) ts le f = same_at ed _ _ comma ts f (λ text p. refl)
 
-  pub lefts_assign : (front : List trees.Expr) (ts : List Lexeme) → 1 ≤ length front → First (Kind assign) ts →
-      run ed 250 (lefts m h l front next alone range) ts ≡ run ed 250 (token assign 0 another (λ _. expr 5 h l a_value (λ e. more_exprs h l (e ∷ []) (λ es. next (trees.assignment (trees.pack front) (trees.pack es)))))) ts
+  pub lefts_assign : (front : List trees.Expression) (ts : List Lexeme) → 1 ≤ length front → First (Kind assign) ts →
+      run_parser ed 250 (lefts m h l front next alone range) ts ≡ run_parser ed 250 (token assign 0 another (λ _. expr 5 h l a_value (λ e. more_exprs h l (e ∷ []) (λ es. next (trees.assignment (trees.pack front) (trees.pack es)))))) ts
   lefts_assign [] ts le f = absurd (omega arith)
   lefts_assign (e ∷ []) ts le f = same_at ed _ _ assign ts f (λ text p. refl)
   lefts_assign (e ∷ d ∷ es) ts le f = same_at ed _ _ assign ts f (λ text p. refl)
@@ -80,8 +80,8 @@ module _ (ed : Edition) (m : machine.Position) (h : Bool) (l : ℕ) (next : tree
       ∙ ap (λ b. cond (b && may_define m) (Take 0 (behind_define m h l ns next range)) other) d
       ∙ ap (λ b. cond b (Take 0 (behind_define m h l ns next range)) other) may
 
-  pub lefts_define : (front : List trees.Expr) (ns : List trees.Name) (ts : List Lexeme) → 1 ≤ length front → First (Kind define) ts → may_define m ≡ true → names_if front ≡ Some ns →
-      run ed 250 (lefts m h l front next alone range) ts ≡ run ed 250 (token define 0 another (λ _. behind_define m h l ns next range)) ts
+  pub lefts_define : (front : List trees.Expression) (ns : List trees.Name) (ts : List Lexeme) → 1 ≤ length front → First (Kind define) ts → may_define m ≡ true → names_if front ≡ Some ns →
+      run_parser ed 250 (lefts m h l front next alone range) ts ≡ run_parser ed 250 (token define 0 another (λ _. behind_define m h l ns next range)) ts
   lefts_define [] ns ts le f may e = absurd (omega arith)
   lefts_define (a ∷ []) ns ts le f may e = same_at ed _ _ define ts f (λ text p. define_takes (record { kind = define; text = text; place = p }) _ (names_if (a ∷ [])) ns refl may e)
   lefts_define (a ∷ b ∷ es) ns ts le f may e = same_at ed _ _ define ts f (λ text p. define_takes (record { kind = define; text = text; place = p }) _ (names_if (a ∷ b ∷ es)) ns refl may e)
@@ -96,14 +96,14 @@ module _ (ed : Edition) (m : machine.Position) (h : Bool) (l : ℕ) (next : tree
   not_defined t other (Some ns) never = not_both (same define t.kind) (may_define m) _ _ (λ a b. none_some (sym (never a b)))
 
   -- one left side, behind which neither another nor `=` nor a short variable declaration comes
-  pub lefts_one : (e : trees.Expr) (ts : List Lexeme) → (First (Kind comma) ts → ⊥) → (First (Kind assign) ts → ⊥) → (First (Kind define) ts → may_define m ≡ true → names_if (e ∷ []) ≡ None) →
+  pub lefts_one : (e : trees.Expression) (ts : List Lexeme) → (First (Kind comma) ts → ⊥) → (First (Kind assign) ts → ⊥) → (First (Kind define) ts → may_define m ≡ true → names_if (e ∷ []) ≡ None) →
       Does ed (lefts m h l (e ∷ []) next alone range) (on_one ed m h l e next alone) (at_one e next) ts
   lefts_one e [] c a d = refl
   lefts_one e (t ∷ ts) c a d =
       passed comma t _ _ c ∙ passed assign t _ _ a ∙ not_defined t _ (names_if (e ∷ [])) (λ b may. d (are_same define t.kind b) may)
 
-  pub lefts_refused : (front : List trees.Expr) (ts : List Lexeme) → 2 ≤ length front → (First (Kind comma) ts → ⊥) → (First (Kind assign) ts → ⊥) → (First (Kind define) ts → may_define m ≡ true → names_if front ≡ None) →
-      run ed 250 (lefts m h l front next alone range) ts ≡ Refused (fault_of another ts) ts
+  pub lefts_refused : (front : List trees.Expression) (ts : List Lexeme) → 2 ≤ length front → (First (Kind comma) ts → ⊥) → (First (Kind assign) ts → ⊥) → (First (Kind define) ts → may_define m ≡ true → names_if front ≡ None) →
+      run_parser ed 250 (lefts m h l front next alone range) ts ≡ Refused (fault_of another ts) ts
   lefts_refused [] ts le c a d = absurd (omega arith)
   lefts_refused (e ∷ []) ts le c a d = absurd (omega arith)
   lefts_refused (e ∷ f ∷ es) [] le c a d = end_refuses ed _ refl
@@ -111,16 +111,16 @@ module _ (ed : Edition) (m : machine.Position) (h : Bool) (l : ℕ) (next : tree
       refuses ed _ another t ts (passed comma t _ _ c ∙ passed assign t _ _ a ∙ not_defined t _ (names_if (e ∷ f ∷ es)) (λ b may. d (are_same define t.kind b) may))
 
 -- behind `:=`
-module _ (ed : Edition) (l : ℕ) (next : trees.Simple → State) (range : trees.Name → trees.Expr → State) (ts : List Lexeme) where
+module _ (ed : Edition) (l : ℕ) (next : trees.Simple → Reader) (range : trees.Name → trees.Expression → Reader) (ts : List Lexeme) where
   pub define_range : (p : Position) (ns : List trees.Name) (n : trees.Name) → p ≡ position.For → ns ≡ n ∷ [] → First (Kind (keyword keywords.Range)) ts →
-      run ed 250 (behind_define (position_of p) (is_bare p) l ns next range) ts ≡ run ed 250 (token (keyword keywords.Range) 0 another (λ _. expr 5 true l an_operand (λ e. range n e))) ts
+      run_parser ed 250 (behind_define (position_of p) (is_bare p) l ns next range) ts ≡ run_parser ed 250 (token (keyword keywords.Range) 0 another (λ _. expr 5 true l an_operand (λ e. range n e))) ts
   define_range p ns n e f first =
-      ap (λ q. run ed 250 (behind_define (position_of q) (is_bare q) l ns next range) ts) e
-      ∙ ap (λ xs. run ed 250 (behind_define machine.in_for true l xs next range) ts) f
+      ap (λ q. run_parser ed 250 (behind_define (position_of q) (is_bare q) l ns next range) ts) e
+      ∙ ap (λ xs. run_parser ed 250 (behind_define machine.in_for true l xs next range) ts) f
       ∙ optional_some ed (keyword keywords.Range) 0 another _ _ ts first
 
   pub define_values : (p : Position) (ns : List trees.Name) → ((p ≡ position.For) × (length ns ≡ 1) × First (Kind (keyword keywords.Range)) ts → ⊥) →
-      run ed 250 (behind_define (position_of p) (is_bare p) l ns next range) ts ≡ run ed 250 (short_var_decl_values (is_bare p) l ns next) ts
+      run_parser ed 250 (behind_define (position_of p) (is_bare p) l ns next range) ts ≡ run_parser ed 250 (short_var_decl_values (is_bare p) l ns next) ts
   define_values position.For [] never = refl
   define_values position.For (n ∷ []) never = optional_none ed (keyword keywords.Range) 0 _ _ ts (λ f. never (refl, refl, f))
   define_values position.For (n ∷ k ∷ ns) never = refl
@@ -129,11 +129,11 @@ module _ (ed : Edition) (l : ℕ) (next : trees.Simple → State) (range : trees
   define_values position.Turns ns never = refl
 
 -- behind one left side
-module _ (ed : Edition) (m : machine.Position) (h : Bool) (l : ℕ) (e : trees.Expr) (next : trees.Simple → State) (alone : trees.Expr → State) (before : State) where
+module _ (ed : Edition) (m : machine.Position) (h : Bool) (l : ℕ) (e : trees.Expression) (next : trees.Simple → Reader) (alone : trees.Expression → Reader) (before : Reader) where
   -- an assignment by an operator
   pub by_operator : (op : BinaryOperator) (ts : List Lexeme) → Does ed before (on_one ed m h l e next alone) (at_one e next) ts →
-      (First (Kind (kinds.Punctuation marks.Increment)) ts → ⊥) → (First (Kind (kinds.Punctuation marks.Decrement)) ts → ⊥) → assigned (first_kind ts) ≡ Some op →
-      (k : TokenKind) × First (Kind k) ts × (run ed 250 before ts ≡ run ed 250 (token k 0 another (λ _. expr 5 h l an_operand (λ r. next (trees.operator_assignment op e r)))) ts)
+      (First (Kind (kinds.Punctuation marks.Increment)) ts → ⊥) → (First (Kind (kinds.Punctuation marks.Decrement)) ts → ⊥) → assignment_operator (first_kind ts) ≡ Some op →
+      (k : TokenKind) × First (Kind k) ts × (run_parser ed 250 before ts ≡ run_parser ed 250 (token k 0 another (λ _. expr 5 h l an_operand (λ r. next (trees.operator_assignment op e r)))) ts)
   by_operator op [] does i d q = absurd (none_some q)
   by_operator op (t ∷ ts) does i d q = (
     t.kind,
@@ -145,7 +145,7 @@ module _ (ed : Edition) (m : machine.Position) (h : Bool) (l : ℕ) (e : trees.E
   )
 
   pub by_none : (ts : List Lexeme) → Does ed before (on_one ed m h l e next alone) (at_one e next) ts →
-      (First (Kind (kinds.Punctuation marks.Increment)) ts → ⊥) → (First (Kind (kinds.Punctuation marks.Decrement)) ts → ⊥) → assigned (first_kind ts) ≡ None →
+      (First (Kind (kinds.Punctuation marks.Increment)) ts → ⊥) → (First (Kind (kinds.Punctuation marks.Decrement)) ts → ⊥) → assignment_operator (first_kind ts) ≡ None →
       Does ed before (on_alone ed m e next alone) (at_one e next) ts
   by_none [] does i d q = does
   by_none (t ∷ ts) does i d q =
@@ -153,10 +153,10 @@ module _ (ed : Edition) (m : machine.Position) (h : Bool) (l : ℕ) (e : trees.E
       ∙ ap (on_assignment h l e next (on_alone ed m e next alone t)) q
 
   -- an expression in front of a block, a call, and another
-  pub by_block : (ts : List Lexeme) → Does ed before (on_alone ed m e next alone) (at_one e next) ts → is_header m ≡ true → First (Kind opening_brace) ts → run ed 250 before ts ≡ run ed 250 (alone e) ts
+  pub by_block : (ts : List Lexeme) → Does ed before (on_alone ed m e next alone) (at_one e next) ts → is_header m ≡ true → First (Kind opening_brace) ts → run_parser ed 250 before ts ≡ run_parser ed 250 (alone e) ts
   by_block [] does i f = absurd f
   by_block (t ∷ ts) does i f = same_step ed before (alone e) t ts (does
-      ∙ ap (λ b. cond (b && same opening_brace t.kind) (step ed (alone e) t) (cond (is_call e) (step ed (next (trees.call_statement e)) t) (Fail (behind_left m e)))) i ∙ chosen opening_brace t _ _ f)
+      ∙ ap (λ b. cond (b && same opening_brace t.kind) (parser_step ed (alone e) t) (cond (is_call e) (parser_step ed (next (trees.call_statement e)) t) (Fail (behind_left m e)))) i ∙ chosen opening_brace t _ _ f)
 
   not_block : (t : Lexeme) (x y : Move) → ((is_header m ≡ true) × Kind opening_brace t → ⊥) → cond (is_header m && same opening_brace t.kind) x y ≡ y
   not_block t x y never = both (is_header m) (same opening_brace t.kind) (λ a b. never (a, are_same opening_brace t.kind b))
@@ -167,16 +167,16 @@ module _ (ed : Edition) (m : machine.Position) (h : Bool) (l : ℕ) (e : trees.E
       both false c h = refl
 
   pub by_call : (ts : List Lexeme) → Does ed before (on_alone ed m e next alone) (at_one e next) ts → ((is_header m ≡ true) × First (Kind opening_brace) ts → ⊥) → is_call e ≡ true →
-      run ed 250 before ts ≡ run ed 250 (next (trees.call_statement e)) ts
+      run_parser ed 250 before ts ≡ run_parser ed 250 (next (trees.call_statement e)) ts
   by_call [] does never c = same_end ed before (next (trees.call_statement e)) (does ∙ ap (λ b. final_if b (final (next (trees.call_statement e)))) c)
   by_call (t ∷ ts) does never c = same_step ed before (next (trees.call_statement e)) t ts (does ∙ not_block t _ _ never
-      ∙ ap (λ b. cond b (step ed (next (trees.call_statement e)) t) (Fail (behind_left m e))) c)
+      ∙ ap (λ b. cond b (parser_step ed (next (trees.call_statement e)) t) (Fail (behind_left m e))) c)
 
   pub by_other : (ts : List Lexeme) → Does ed before (on_alone ed m e next alone) (at_one e next) ts → ((is_header m ≡ true) × First (Kind opening_brace) ts → ⊥) → is_call e ≡ false →
-      run ed 250 before ts ≡ Refused (fault_of (behind_left m e) ts) ts
+      run_parser ed 250 before ts ≡ Refused (fault_of (behind_left m e) ts) ts
   by_other [] does never c = end_refuses ed before (does ∙ ap (λ b. final_if b (final (next (trees.call_statement e)))) c)
   by_other (t ∷ ts) does never c = refuses ed before (behind_left m e) t ts (does ∙ not_block t _ _ never
-      ∙ ap (λ b. cond b (step ed (next (trees.call_statement e)) t) (Fail (behind_left m e))) c)
+      ∙ ap (λ b. cond b (parser_step ed (next (trees.call_statement e)) t) (Fail (behind_left m e))) c)
 
 -- names
 
@@ -184,7 +184,7 @@ push_none : (o : Option trees.Name) → machine.push_name o None ≡ None
 push_none None = refl
 push_none (Some n) = refl
 
-pub name_fails : (xs : List trees.Expr) (x : trees.Expr) (ys : List trees.Expr) → machine.name_if x ≡ None → names_if (xs ++ x ∷ ys) ≡ None
+pub name_fails : (xs : List trees.Expression) (x : trees.Expression) (ys : List trees.Expression) → machine.name_if x ≡ None → names_if (xs ++ x ∷ ys) ≡ None
 name_fails [] x ys e = ap (λ o. machine.push_name o (names_if ys)) e
 name_fails (z ∷ xs) x ys e = ap (machine.push_name (machine.name_if z)) (name_fails xs x ys e) ∙ push_none (machine.name_if z)
 
@@ -198,11 +198,11 @@ push_add None (Some ns) n = refl
 push_add (Some m) None n = refl
 push_add (Some m) (Some ns) n = refl
 
-names_add : (xs : List trees.Expr) (x : trees.Expr) (n : trees.Name) → machine.name_if x ≡ Some n → names_if (xs ++ x ∷ []) ≡ add_name (names_if xs) n
+names_add : (xs : List trees.Expression) (x : trees.Expression) (n : trees.Name) → machine.name_if x ≡ Some n → names_if (xs ++ x ∷ []) ≡ add_name (names_if xs) n
 names_add [] x n e = ap (λ o. machine.push_name o (Some [])) e
 names_add (z ∷ xs) x n e = ap (machine.push_name (machine.name_if z)) (names_add xs x n e) ∙ push_add (machine.name_if z) (names_if xs) n
 
-pub name_added : (xs : List trees.Expr) (x : trees.Expr) (n : trees.Name) (ns : List trees.Name) → names_if xs ≡ Some ns → machine.name_if x ≡ Some n → names_if (xs ++ x ∷ []) ≡ Some (ns ++ n ∷ [])
+pub name_added : (xs : List trees.Expression) (x : trees.Expression) (n : trees.Name) (ns : List trees.Name) → names_if xs ≡ Some ns → machine.name_if x ≡ Some n → names_if (xs ++ x ∷ []) ≡ Some (ns ++ n ∷ [])
 name_added xs x n ns e f = names_add xs x n f ∙ ap (λ o. add_name o n) e
 
 -- expressions that were read
@@ -233,11 +233,11 @@ names_step xs i d n ns lt e inv f =
     ∙ ap names_if (pushed expr_of (take i xs) d) ∙ name_added (map expr_of (take i xs)) (expr_of d) n ns inv f
 
 -- what is expected behind a name, and behind another expression
-pub behind_name : (e : trees.Expr) (n : trees.Name) → machine.name_if e ≡ Some n → behind_left machine.in_list e ≡ expected.behind_a_name
+pub behind_name : (e : trees.Expression) (n : trees.Name) → machine.name_if e ≡ Some n → behind_left machine.in_list e ≡ expected.behind_a_name
 behind_name (trees.name p text) n q = refl
 behind_name _ n q = absurd (none_some q)
 
-pub behind_another : (e : trees.Expr) → machine.name_if e ≡ None → behind_left machine.in_list e ≡ another
+pub behind_another : (e : trees.Expression) → machine.name_if e ≡ None → behind_left machine.in_list e ≡ another
 behind_another (trees.name p text) q = absurd (none_some (sym q))
 behind_another _ q = refl
 

@@ -1,9 +1,9 @@
 -- Lemmas of declarations and statements.
-pub mod Choices
-pub mod Clauses
-pub mod Items
-pub mod Lefts
-pub mod ListReads
+mod Choices
+mod Clauses
+mod Items
+mod Lefts
+mod ListReads
 pub mod Lists
 pub mod Reading
 pub mod Steps

@@ -10,7 +10,7 @@ use Rattle.go_ast.specs.Operators.{assignment_of}
 use Rattle.go_ast.specs.Expected as expected
 use Rattle.go_ast.specs.Grammar.{Lexeme, semicolon, closing_brace, opening_brace, is_call, simple_place}
 use Rattle.go_ast.specs.Machine as machine
-use Rattle.go_ast.specs.Machine.{State, Move, Take, Fail, cond, step, final, final_if, optional, token, keyword, is_header, on_left, behind_left, block_at, for_body, range_body, behind_case, clause_body, pack_clauses}
+use Rattle.go_ast.specs.Machine.{Reader, Move, Take, Fail, cond, parser_step, final, final_if, optional, keyword, is_header, on_left, behind_left}
 use Rattle.go_ast.specs.Views.{expr_of, simple_of}
 use Rattle.go_pstmt.specs.Due.{declared_or, jump_or}
 use Rattle.go_pstmt.specs.declared.simple.Position.{Position}
@@ -37,47 +37,47 @@ beginning position.List = expected.a_statement
 beginning _ = expected.an_operand
 
 -- what is due behind what was read: a statement, an expression alone, or `name := range` and an expression
-abbrev pub by_header : (trees.Simple → State) → (trees.Expr → State) → (trees.Name → trees.Expr → State) → Header → State
+abbrev pub by_header : (trees.Simple → Reader) → (trees.Expression → Reader) → (trees.Name → trees.Expression → Reader) → Header → Reader
 by_header next alone range (header.Simple s) = next (simple_of s.value)
 by_header next alone range (header.Alone e) = alone (expr_of e.value)
 by_header next alone range (header.Range n e) = range n (expr_of e.value)
 
 -- the operator of an assignment such as `+=`, if its token comes
-abbrev pub assigned : Option TokenKind → Option BinaryOperator
-assigned None = None
-assigned (Some k) = assignment_of k
+abbrev pub assignment_operator : Option TokenKind → Option BinaryOperator
+assignment_operator None = None
+assignment_operator (Some k) = assignment_of k
 
 -- What a state does with the first of these tokens, or at their end.
-abbrev pub Does : Edition → State → (Lexeme → Move) → Option trees.File → List Lexeme → Type 0
+abbrev pub Does : Edition → Reader → (Lexeme → Move) → Option trees.File → List Lexeme → Type 0
 Does ed s on end [] = final s ≡ end
-Does ed s on end (t ∷ ts) = step ed s t ≡ on t
+Does ed s on end (t ∷ ts) = parser_step ed s t ≡ on t
 
 -- behind one left side, where neither another nor `=` nor a short variable declaration follows
-abbrev pub on_alone : Edition → machine.Position → trees.Expr → (trees.Simple → State) → (trees.Expr → State) → Lexeme → Move
+abbrev pub on_alone : Edition → machine.Position → trees.Expression → (trees.Simple → Reader) → (trees.Expression → Reader) → Lexeme → Move
 on_alone ed m e next alone t =
-    cond (is_header m && same opening_brace t.kind) (step ed (alone e) t) (cond (is_call e) (step ed (next (trees.call_statement e)) t) (Fail (behind_left m e)))
+    cond (is_header m && same opening_brace t.kind) (parser_step ed (alone e) t) (cond (is_call e) (parser_step ed (next (trees.call_statement e)) t) (Fail (behind_left m e)))
 
-abbrev pub on_one : Edition → machine.Position → Bool → ℕ → trees.Expr → (trees.Simple → State) → (trees.Expr → State) → Lexeme → Move
+abbrev pub on_one : Edition → machine.Position → Bool → ℕ → trees.Expression → (trees.Simple → Reader) → (trees.Expression → Reader) → Lexeme → Move
 on_one ed m h l e next alone t = on_left h l e next t (on_alone ed m e next alone t)
 
-abbrev pub at_one : trees.Expr → (trees.Simple → State) → Option trees.File
+abbrev pub at_one : trees.Expression → (trees.Simple → Reader) → Option trees.File
 at_one e next = final_if (is_call e) (final (next (trees.call_statement e)))
 
 -- statements
 
 -- One state is behind an item of a list of statements, behind which this is expected; the other is in front of the next item.
-pub record Between (ed : Edition) (behind : State) (x : expected.Expected) (front : State) : Type 0 where
+pub record Between (ed : Edition) (behind : Reader) (x : expected.Expected) (front : Reader) : Type 0 where
   pub ends : final behind ≡ None
-  pub goes_on : (t : Lexeme) → t.kind ≡ semicolon → step ed behind t ≡ Take 0 front
-  pub closes : (t : Lexeme) → t.kind ≡ closing_brace → step ed behind t ≡ step ed front t
-  pub fails : (t : Lexeme) → (t.kind ≡ semicolon → ⊥) → (t.kind ≡ closing_brace → ⊥) → step ed behind t ≡ Fail x
+  pub goes_on : (t : Lexeme) → t.kind ≡ semicolon → parser_step ed behind t ≡ Take 0 front
+  pub closes : (t : Lexeme) → t.kind ≡ closing_brace → parser_step ed behind t ≡ parser_step ed front t
+  pub fails : (t : Lexeme) → (t.kind ≡ semicolon → ⊥) → (t.kind ≡ closing_brace → ⊥) → parser_step ed behind t ≡ Fail x
 
 -- an item of a list of statements
-abbrev pub on_item : ℕ → (expected.Expected → trees.Stmt → State) → (trees.Stmt → State) → Lexeme → Move
-on_item l next front t = cond (same semicolon t.kind) (Take l (front (trees.empty t.place))) (machine.on_stmt l next t)
+abbrev pub read_item : ℕ → (expected.Expected → trees.Statement → Reader) → (trees.Statement → Reader) → Lexeme → Move
+read_item l next front t = cond (same semicolon t.kind) (Take l (front (trees.empty t.place))) (machine.on_stmt l next t)
 
 -- a statement that isn't empty
-abbrev pub due_stmt : ℕ → (trees.Stmt → State) → State
+abbrev pub due_stmt : ℕ → (trees.Statement → Reader) → Reader
 due_stmt l next =
     declared_or l next
     (jump_or l next

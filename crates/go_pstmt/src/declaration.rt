@@ -3,7 +3,7 @@ ghost use Rattle.std.specs.Prelude.{◌<◌, ◌≤◌, Some, None, OnOk, refl};
 ghost use Rattle.go_ast.specs.Trees as trees;
 ghost use Rattle.go_ast.specs.Expected.{another};
 ghost use Rattle.go_ast.specs.Grammar.{assign};
-ghost use Rattle.go_ast.specs.Machine.{State, token, optional, names, group, value_list, const_rest, var_rest, const_specs, var_specs, type_specs};
+ghost use Rattle.go_ast.specs.Machine.{Reader, token, optional, names, group, value_list, const_rest, var_rest, const_specs, var_specs, type_specs};
 ghost use Rattle.go_ast.specs.Views.{exprs_in, const_of, var_of, type_spec_of, decl_of};
 ghost use Rattle.go_pexpr.specs.Reads.{Reads, size, ReadsAs};
 ghost use Rattle.go_pstmt.specs.Reading.{const_values, type_spec_at, var_values};
@@ -69,7 +69,7 @@ fn untyped_const(
 /// `ConstSpec = IdentifierList [ [ Type ] "=" ExpressionList ] .`
 fn const_spec(parser: &mut Parser<'_>, level: u32) -> Result<ConstSpec, Refusal>
     requires { level ≤ 252 }
-    ensures reads { (next : trees.ConstSpec → State) → Reads (names 0 (const_rest level next)) (λ s. next (const_of s)) parser.old result parser.new }
+    ensures reads { (next : trees.ConstSpec → Reader) → Reads (names 0 (const_rest level next)) (λ s. next (const_of s)) parser.old result parser.new }
     ensures shorter { OnOk result (size parser.new < size parser.old) }
 {
     let names = parser.names(0)?;
@@ -154,7 +154,7 @@ fn untyped_var(parser: &mut Parser<'_>, level: u32, names: Vec<Name>) -> Result<
 /// `VarSpec = IdentifierList ( Type [ "=" ExpressionList ] | "=" ExpressionList ) .`
 fn var_spec(parser: &mut Parser<'_>, level: u32) -> Result<VarSpec, Refusal>
     requires { level ≤ 252 }
-    ensures reads { (next : trees.VarSpec → State) → Reads (names level (var_rest level next)) (λ s. next (var_of s)) parser.old result parser.new }
+    ensures reads { (next : trees.VarSpec → Reader) → Reads (names level (var_rest level next)) (λ s. next (var_of s)) parser.old result parser.new }
     ensures shorter { OnOk result (size parser.new < size parser.old) }
 {
     let names = parser.names(level)?;

@@ -2,7 +2,7 @@
 ghost use Rattle.std.specs.Prelude.{◌+◌, ◌<◌, ◌≤◌, Option, Some, None, OnOk};
 ghost use Rattle.go_ast.specs.Trees as trees;
 ghost use Rattle.go_ast.specs.Grammar.{Lexeme};
-ghost use Rattle.go_ast.specs.Machine.{State, behind_for, for_condition, for_turns};
+ghost use Rattle.go_ast.specs.Machine.{Reader, behind_for, for_condition, for_turns};
 ghost use Rattle.go_ast.specs.Views.{expr_of, simple_of, if_boxed};
 ghost use Rattle.go_pexpr.specs.Reads.{Reads, size};
 ghost use Rattle.go_pstmt.specs.Reading.{ReadsTurns};
@@ -69,7 +69,7 @@ fn condition_behind(
 /// `[ Condition | ForClause | RangeClause ] .` `ForClause = [ InitStmt ] ";" [ Condition ] ";" [ PostStmt ] .`
 pub(crate) fn turns_from(parser: &mut Parser<'_>, level: u32) -> Result<Turns, Refusal>
     requires { level ≤ 251 }
-    ensures reads { (t : Lexeme) (next : trees.Stmt → State) → Reads (behind_for level next t) (by_turns level t.place next) parser.old result parser.new }
+    ensures reads { (t : Lexeme) (next : trees.Statement → Reader) → Reads (behind_for level next t) (by_turns level t.place next) parser.old result parser.new }
     ensures no_longer { OnOk result (size parser.new ≤ size parser.old) }
 {
     if parser.is_next(OPENING_BRACE) {

@@ -1,12 +1,13 @@
 //! Reads what is between an `if` or a `switch` and its block.
 ghost use Rattle.std.specs.Prelude.{◌+◌, ◌<◌, ◌≤◌, Option, Some, None, OnOk, true};
 ghost use Rattle.go_ast.specs.Trees as trees;
+ghost use Rattle.go_ast.specs.Trees.{Statement};
 ghost use Rattle.go_ast.specs.Grammar.{Lexeme};
-ghost use Rattle.go_ast.specs.Machine.{State, token, behind_if, if_condition, behind_switch, switch_tag};
+ghost use Rattle.go_ast.specs.Machine.{Reader, token, behind_if, if_condition, behind_switch, switch_tag};
 ghost use Rattle.go_ast.specs.Views.{expr_of, simple_of, if_boxed};
 ghost use Rattle.go_text.specs.declared.place.Place.{Place};
 ghost use Rattle.go_pexpr.specs.Reads.{Reads, size, ReadsAs};
-ghost use Rattle.go_pstmt.specs.Reading.{value_due, by_condition, by_compared};
+ghost use Rattle.go_pstmt.specs.Reading.{read_value_if, by_condition, by_compared};
 
 use crate::marks::{OPENING_BRACE, SEMICOLON};
 use crate::simple::{Header, Position, header_from};
@@ -43,7 +44,7 @@ pub(crate) fn value_before(
     mark: TokenKind,
 ) -> Result<Option<Box<Expr>>, Refusal>
     requires { level ≤ 252 }
-    ensures reads { ReadsAs (if_boxed expr_of) (value_due level mark) parser.old result parser.new }
+    ensures reads { ReadsAs (if_boxed expr_of) (read_value_if level mark) parser.old result parser.new }
     ensures shorter { OnOk result (size parser.new < size parser.old) }
 {
     if let Some(_) = parser.accept(mark, 0)? {
@@ -62,7 +63,7 @@ fn condition_behind(
     init: Option<Box<Simple>>,
 ) -> Result<Condition, Refusal>
     requires { level ≤ 251 }
-    ensures reads { (p : Place) (next : trees.If → State) → Reads (if_condition level p next (if_boxed simple_of init)) (by_condition level p next) parser.old result parser.new }
+    ensures reads { (p : Place) (next : trees.If → Reader) → Reads (if_condition level p next (if_boxed simple_of init)) (by_condition level p next) parser.old result parser.new }
     ensures shorter { OnOk result (size parser.new < size parser.old) }
 {
     let condition = parser.expr_from(true, level + 1, Expected::Operand)?;
@@ -75,7 +76,7 @@ fn condition_behind(
 /// `[ [ SimpleStmt ] ";" ] Expression .`
 pub(crate) fn condition_from(parser: &mut Parser<'_>, level: u32) -> Result<Condition, Refusal>
     requires { level ≤ 251 }
-    ensures reads { (t : Lexeme) (next : trees.If → State) → Reads (behind_if level next t) (by_condition level t.place next) parser.old result parser.new }
+    ensures reads { (t : Lexeme) (next : trees.If → Reader) → Reads (behind_if level next t) (by_condition level t.place next) parser.old result parser.new }
     ensures shorter { OnOk result (size parser.new < size parser.old) }
 {
     if let Some(_) = parser.accept(SEMICOLON, 0)? {
@@ -101,7 +102,7 @@ fn compared_behind(
     init: Option<Box<Simple>>,
 ) -> Result<Compared, Refusal>
     requires { level ≤ 251 }
-    ensures reads { (p : Place) (next : trees.Stmt → State) → Reads (switch_tag level p next (if_boxed simple_of init)) (by_compared level p next) parser.old result parser.new }
+    ensures reads { (p : Place) (next : Statement → Reader) → Reads (switch_tag level p next (if_boxed simple_of init)) (by_compared level p next) parser.old result parser.new }
     ensures shorter { OnOk result (size parser.new < size parser.old) }
 {
     let value = value_before(parser, level + 1, OPENING_BRACE)?;
@@ -113,7 +114,7 @@ fn compared_behind(
 /// `[ [ SimpleStmt ] ";" ] [ Expression ] "{" .`
 pub(crate) fn compared_from(parser: &mut Parser<'_>, level: u32) -> Result<Compared, Refusal>
     requires { level ≤ 251 }
-    ensures reads { (t : Lexeme) (next : trees.Stmt → State) → Reads (behind_switch level next t) (by_compared level t.place next) parser.old result parser.new }
+    ensures reads { (t : Lexeme) (next : trees.Statement → Reader) → Reads (behind_switch level next t) (by_compared level t.place next) parser.old result parser.new }
     ensures shorter { OnOk result (size parser.new < size parser.old) }
 {
     if let Some(_) = parser.accept(OPENING_BRACE, 0)? {

@@ -1,7 +1,7 @@
 //! Reads statements with no statements in them.
 ghost use Rattle.std.specs.Prelude.{◌≡◌, ◌<◌, ◌≤◌, Some, Ok, OnOk};
 ghost use Rattle.go_ast.specs.Trees as trees;
-ghost use Rattle.go_ast.specs.Machine.{State};
+ghost use Rattle.go_ast.specs.Machine.{Reader};
 ghost use Rattle.go_ast.specs.Views.{stmt_of, exprs_in};
 ghost use Rattle.go_ast.specs.declared.statement.Stmt.{Stmt};
 ghost use Rattle.go_pstmt.specs.Due.{declared_or, jump_or, values_or_none};
@@ -19,7 +19,7 @@ use go_pexpr::parser::{Parser, Refusal};
 /// `Declaration = ConstDecl | VarDecl .`
 pub(crate) fn declared(parser: &mut Parser<'_>, level: u32) -> Result<Option<Stmt>, Refusal>
     requires { level ≤ 251 }
-    ensures reads { (next : trees.Stmt → State) (none : State) → Reads (declared_or level next none) (either (λ s. next (stmt_of s)) none) parser.old result parser.new }
+    ensures reads { (next : trees.Statement → Reader) (none : Reader) → Reads (declared_or level next none) (either (λ s. next (stmt_of s)) none) parser.old result parser.new }
     ensures no_longer { OnOk result (size parser.new ≤ size parser.old) }
     ensures shorter { (s : Stmt) → result ≡ Ok (Some s) → size parser.new < size parser.old }
 {
@@ -39,7 +39,7 @@ pub(crate) fn declared(parser: &mut Parser<'_>, level: u32) -> Result<Option<Stm
 /// `[ ExpressionList ] .`
 fn values(parser: &mut Parser<'_>, level: u32) -> Result<Vec<Expr>, Refusal>
     requires { level ≤ 252 }
-    ensures reads { (next : trees.Exprs → State) → Reads (values_or_none level next) (λ es. next (exprs_in es.items)) parser.old result parser.new }
+    ensures reads { (next : trees.ExpressionList → Reader) → Reads (values_or_none level next) (λ es. next (exprs_in es.items)) parser.old result parser.new }
     ensures no_longer { OnOk result (size parser.new ≤ size parser.old) }
 {
     let Some(value) = parser.expr_if(false, level, Expected::Operand)? else {
@@ -56,7 +56,7 @@ fn values(parser: &mut Parser<'_>, level: u32) -> Result<Vec<Expr>, Refusal>
 /// `FallthroughStmt = "fallthrough" .`
 pub(crate) fn jump(parser: &mut Parser<'_>, level: u32) -> Result<Option<Stmt>, Refusal>
     requires { level ≤ 251 }
-    ensures reads { (next : trees.Stmt → State) (none : State) → Reads (jump_or level next none) (either (λ s. next (stmt_of s)) none) parser.old result parser.new }
+    ensures reads { (next : trees.Statement → Reader) (none : Reader) → Reads (jump_or level next none) (either (λ s. next (stmt_of s)) none) parser.old result parser.new }
     ensures no_longer { OnOk result (size parser.new ≤ size parser.old) }
     ensures shorter { (s : Stmt) → result ≡ Ok (Some s) → size parser.new < size parser.old }
 {

@@ -1,7 +1,6 @@
 //! Makes statements of their parts.
 ghost use Rattle.std.specs.Prelude.{◌≡◌, IsTrue, ◌↔◌};
 ghost use Rattle.go_ast.specs.Trees as trees;
-ghost use Rattle.go_ast.specs.Machine.{State};
 ghost use Rattle.go_ast.specs.Views.{stmt_of, block_of};
 ghost use Rattle.go_ast.specs.declared.statement.Block.{Block};
 ghost use Rattle.go_text.specs.declared.place.Place.{Place};

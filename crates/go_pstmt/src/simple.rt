@@ -8,8 +8,8 @@ ghost use Rattle.go_ast.specs.Grammar.{comma, define, opening_brace, is_call, si
 ghost use Rattle.go_ast.specs.Machine.{token, keyword, name_if, names_if, may_define, behind_left, is_header};
 ghost use Rattle.go_ast.specs.Views.{if_some, expr_of, exprs_in, simple_of};
 ghost use Rattle.go_pexpr.specs.Reads.{First, left, size, expected_of, ReadsAs, IsNext};
-ghost use Rattle.go_pstmt.specs.Reading.{lefts_at, left_at, simple_at, assigned_at, defined_at, ReadsHeader, ReadsRange, ReadsLefts, ReadsAlone, ReadsBehindOne, IsStated, Defines};
-ghost use Rattle.go_pstmt.specs.Statements.{position_of, is_bare, beginning, assigned};
+ghost use Rattle.go_pstmt.specs.Reading.{read_lefts, read_left, read_simple, assigned_at, defined_at, ReadsHeader, ReadsRange, ReadsLefts, ReadsAlone, ReadsBehindOne, IsStated, Defines};
+ghost use Rattle.go_pstmt.specs.Statements.{position_of, is_bare, beginning, assignment_operator};
 
 use crate::marks::{ASSIGN, COMMA, DECREMENT, DEFINE, INCREMENT, OPENING_BRACE, RANGE};
 use go_ast::expression::{BinaryOperator, Expr, ExprKind};
@@ -73,7 +73,7 @@ fn may_define(position: Position) -> bool
 
 /// The operator of an assignment such as `+=`.
 fn assigned(kind: Option<TokenKind>) -> Option<BinaryOperator>
-    ensures { result ≡ assigned kind }
+    ensures { result ≡ assignment_operator kind }
 {
     let Some(TokenKind::Punctuation(mark)) = kind else {
         return None;
@@ -372,7 +372,7 @@ fn behind_sides(
     requires level { level ≤ 252 }
     requires some { 1 ≤ length sides.items }
     requires last { First (λ t. t.kind ≡ comma) (left parser.old) → ⊥ }
-    ensures reads { ReadsHeader (lefts_at position level (map expr_of sides.items)) parser.old result parser.new }
+    ensures reads { ReadsHeader (read_lefts position level (map expr_of sides.items)) parser.old result parser.new }
     ensures no_longer { OnOk result (size parser.new ≤ size parser.old) }
 {
     if parser.is_next(ASSIGN) {
@@ -396,7 +396,7 @@ pub(crate) fn header_from(
     level: u32,
 ) -> Result<Header, Refusal>
     requires { level ≤ 252 }
-    ensures reads { ReadsHeader (left_at position level) parser.old result parser.new }
+    ensures reads { ReadsHeader (read_left position level) parser.old result parser.new }
     ensures shorter { OnOk result (size parser.new < size parser.old) }
 {
     let sides = left_sides(parser, position, level)?;
@@ -412,7 +412,7 @@ pub(crate) fn simple(
     level: u32,
 ) -> Result<Simple, Refusal>
     requires { level ≤ 252 }
-    ensures reads { ReadsAs simple_of (simple_at position level) parser.old result parser.new }
+    ensures reads { ReadsAs simple_of (read_simple position level) parser.old result parser.new }
     ensures shorter { OnOk result (size parser.new < size parser.old) }
 {
     match header_from(parser, position, level)? {
@@ -436,7 +436,7 @@ fn first_place(sides: &[Expr]) -> Place
 
 /// The place of the first of some names.
 fn first_name_place(names: &[Name]) -> Place
-    ensures { (rs : trees.Exprs) → result ≡ simple_place (trees.short_var_decl names.now rs) }
+    ensures { (rs : trees.ExpressionList) → result ≡ simple_place (trees.short_var_decl names.now rs) }
 {
     match names {
         [name, ..] => name.place(),

@@ -3,7 +3,7 @@ ghost use Rattle.std.specs.Prelude.{◌<◌, ◌≤◌, ◌+◌, List, map, OnOk
 ghost use Rattle.go_ast.specs.Trees as trees;
 ghost use Rattle.go_scan.specs.declared.keyword.Keyword.TheVariants as keywords;
 ghost use Rattle.go_ast.specs.Expected as expected;
-ghost use Rattle.go_ast.specs.Machine.{State, token, keyword, block_at, behind_if, behind_for, behind_switch, clauses_at, pack_clauses};
+ghost use Rattle.go_ast.specs.Machine.{Reader, token, keyword, read_block, behind_if, behind_for, behind_switch, read_clauses, pack_cases};
 ghost use Rattle.go_ast.specs.Views.{stmt_of, block_of, if_of, clause_of};
 ghost use Rattle.go_pexpr.specs.Reads.{Reads, size, expected_of, ReadsAs};
 ghost use Rattle.go_pstmt.specs.Reading.{ReadsElse, ReadsClauseBody, ReadsStatement};
@@ -23,7 +23,7 @@ use go_pexpr::parser::{Parser, Refusal};
 /// Reads what is behind an item of a list of statements: a semicolon, which may be missing before
 /// a brace.
 fn item_end(parser: &mut Parser<'_>, expected: Expected) -> Result<(), Refusal>
-    ensures reads { (behind front : State) → Between parser.old.edition behind (expected_of expected) front → Reads behind (λ _. front) parser.old result parser.new }
+    ensures reads { (behind front : Reader) → Between parser.old.edition behind (expected_of expected) front → Reads behind (λ _. front) parser.old result parser.new }
     ensures no_longer { OnOk result (size parser.new ≤ size parser.old) }
 {
     if parser.is_next(CLOSING_BRACE) {
@@ -39,7 +39,7 @@ fn item_end(parser: &mut Parser<'_>, expected: Expected) -> Result<(), Refusal>
 #[cycle(statement)]
 pub fn block(parser: &mut Parser<'_>, level: u32) -> Result<Block, Refusal>
     requires { level ≤ 252 }
-    ensures reads { (next : trees.Block → State) → Reads (block_at level next) (λ b. next (block_of b)) parser.old result parser.new }
+    ensures reads { (next : trees.Block → Reader) → Reads (read_block level next) (λ b. next (block_of b)) parser.old result parser.new }
     ensures shorter { OnOk result (size parser.new < size parser.old) }
 {
     let opening = parser.expect(OPENING_BRACE, level, Expected::Another)?;
@@ -83,7 +83,7 @@ fn item(parser: &mut Parser<'_>, level: u32, statements: &mut Vec<Stmt>) -> Resu
 #[cycle(statement)]
 fn statement(parser: &mut Parser<'_>, level: u32) -> Result<Stmt, Refusal>
     requires { level ≤ 251 }
-    ensures reads { (next : trees.Stmt → State) → Reads (due_stmt level next) (λ s. next (stmt_of s)) parser.old result parser.new }
+    ensures reads { (next : trees.Statement → Reader) → Reads (due_stmt level next) (λ s. next (stmt_of s)) parser.old result parser.new }
     ensures shorter { OnOk result (size parser.new < size parser.old) }
 {
     if let Some(statement) = declared(parser, level)? {
@@ -191,7 +191,7 @@ fn switch(parser: &mut Parser<'_>, level: u32) -> Result<Stmt, Refusal>
 #[cycle(statement)]
 fn clauses(parser: &mut Parser<'_>, level: u32) -> Result<Vec<Clause>, Refusal>
     requires { level ≤ 250 }
-    ensures reads { (next : trees.Clauses → State) → Reads (clauses_at level (λ cs _. next cs)) (λ cs. next (pack_clauses (map clause_of cs.items))) parser.old result parser.new }
+    ensures reads { (next : trees.Cases → Reader) → Reads (read_clauses level (λ cs _. next cs)) (λ cs. next (pack_cases (map clause_of cs.items))) parser.old result parser.new }
     ensures shorter { OnOk result (size parser.new < size parser.old) }
 {
     let mut clauses = Vec::new(parser.alloc);

@@ -8,8 +8,8 @@ use Rattle.go_scan.specs.declared.escapes.Form.TheVariants.{Octal, Two, Four, Ei
 use Rattle.go_scan.specs.declared.escapes.Meaning.{Meaning}
 use Rattle.go_scan.specs.declared.escapes.Meaning.TheVariants.{Byte}
 use Rattle.go_scan.specs.Numbers.{is_digit_of}
-use Rattle.go_scan.specs.Escapes.{letter_escape, opening, count, base, number_from, means, IsEscape}
-use Rattle.go_scan.specs.Fronts.{digits_at, sized, meant, number_escape_at, other_escape_at, escape_at}
+use Rattle.go_scan.specs.Escapes.{letter_escape, escape_prefix, count, escape_base, number_from, means, IsEscape}
+use Rattle.go_scan.specs.Fronts.{digits_at, sized, front_meaning, number_escape_at, other_escape_at, escape_at}
 use Rattle.go_scan.proofs.Runs.{and_left, and_right, and_both}
 
 -- digits are read
@@ -51,31 +51,31 @@ sound_if quote text true x y p q = p refl
 sound_if quote text false x y p q = q refl
 
 -- the text behind the backslash, by the form
-number_sound : (quote : ℕ) (form : Form) (rest : List ℕ) → Sound quote (92 ∷ opening form ++ rest) (number_escape_at form rest)
-number_sound quote form rest = by_digits (digits_at (base form) (count form) 0 rest) refl
+number_sound : (quote : ℕ) (form : Form) (rest : List ℕ) → Sound quote (92 ∷ escape_prefix form ++ rest) (number_escape_at form rest)
+number_sound quote form rest = by_digits (digits_at (escape_base form) (count form) 0 rest) refl
   where
-    by_digits : (o : Option ℕ) → digits_at (base form) (count form) 0 rest ≡ o → Sound quote (92 ∷ opening form ++ rest) (meant form o)
+    by_digits : (o : Option ℕ) → digits_at (escape_base form) (count form) 0 rest ≡ o → Sound quote (92 ∷ escape_prefix form ++ rest) (front_meaning form o)
     by_digits None e = tt
     by_digits (Some v) e = by_meaning (means form v) refl
       where
-        d : Digits (base form) (count form) 0 rest v
-        d = digits_taken (base form) (count form) 0 rest v e
+        d : Digits (escape_base form) (count form) 0 rest v
+        d = digits_taken (escape_base form) (count form) 0 rest v e
 
-        by_meaning : (o : Option Meaning) → means form v ≡ o → Sound quote (92 ∷ opening form ++ rest) (sized (1 + length (opening form) + count form) o)
+        by_meaning : (o : Option Meaning) → means form v ≡ o → Sound quote (92 ∷ escape_prefix form ++ rest) (sized (1 + length (escape_prefix form) + count form) o)
         by_meaning None f = tt
         by_meaning (Some m) f = record {
           some = some form;
-          within = omega (arith, d.within, length-append (opening form) rest);
+          within = omega (arith, d.within, length-append (escape_prefix form) rest);
           escape = inr (form, take (count form) rest, whole form, omega (arith, d.within, length-take (count form) rest), d.digits, ap (means form) d.number ∙ f);
         }
           where
-            some : (form : Form) → 2 ≤ 1 + length (opening form) + count form
+            some : (form : Form) → 2 ≤ 1 + length (escape_prefix form) + count form
             some Octal = omega arith
             some Two = omega arith
             some Four = omega arith
             some Eight = omega arith
 
-            whole : (form : Form) → take (1 + length (opening form) + count form) (92 ∷ opening form ++ rest) ≡ 92 ∷ opening form ++ take (count form) rest
+            whole : (form : Form) → take (1 + length (escape_prefix form) + count form) (92 ∷ escape_prefix form ++ rest) ≡ 92 ∷ escape_prefix form ++ take (count form) rest
             whole Octal = refl
             whole Two = refl
             whole Four = refl
@@ -126,12 +126,12 @@ pub double_quote : IsQuote 34
 double_quote = (refl, refl, refl, λ b e. no_letter 34 (inr (omega arith)) b (octal_range b e).0 (octal_range b e).1)
 
 -- digits that mean something
-number_read : (form : Form) (digits rest : List ℕ) (m : Meaning) → length digits ≡ count form → list_all (is_digit_of (base form)) digits ≡ true → means form (number_from (base form) 0 digits) ≡ Some m →
-    number_escape_at form (digits ++ rest) ≡ Some (1 + length (opening form) + count form, m)
+number_read : (form : Form) (digits rest : List ℕ) (m : Meaning) → length digits ≡ count form → list_all (is_digit_of (escape_base form)) digits ≡ true → means form (number_from (escape_base form) 0 digits) ≡ Some m →
+    number_escape_at form (digits ++ rest) ≡ Some (1 + length (escape_prefix form) + count form, m)
 number_read form digits rest m size all meaning =
-    ap (λ k. meant form (digits_at (base form) k 0 (digits ++ rest))) (sym size)
-    ∙ ap (meant form) (digits_read (base form) 0 digits rest all)
-    ∙ ap (sized (1 + length (opening form) + count form)) meaning
+    ap (λ k. front_meaning form (digits_at (escape_base form) k 0 (digits ++ rest))) (sym size)
+    ∙ ap (front_meaning form) (digits_read (escape_base form) 0 digits rest all)
+    ∙ ap (sized (1 + length (escape_prefix form) + count form)) meaning
 
 by_letter : (quote b : ℕ) (bs : List ℕ) → letter_escape quote b ≡ None → escape_at quote (b ∷ bs) ≡ other_escape_at b bs
 by_letter quote b bs e = ap (λ o. elim o [ None ↦ other_escape_at b bs | Some c ↦ Some (2, Byte c) ]) e
@@ -147,11 +147,11 @@ octal_other b bs e =
     ∙ ap (λ t. cond t (number_escape_at Eight bs) (number_escape_at Octal (b ∷ bs))) v
 
 -- the size of an escape by number
-number_size : (form : Form) (xs digits : List ℕ) → xs ≡ 92 ∷ opening form ++ digits → length digits ≡ count form → 1 + length (opening form) + count form ≡ length xs
-number_size form xs digits e size = omega (arith, ap (λ (ys : List ℕ). length ys) e, length-append (opening form) digits)
+number_size : (form : Form) (xs digits : List ℕ) → xs ≡ 92 ∷ escape_prefix form ++ digits → length digits ≡ count form → 1 + length (escape_prefix form) + count form ≡ length xs
+number_size form xs digits e size = omega (arith, ap (λ (ys : List ℕ). length ys) e, length-append (escape_prefix form) digits)
 
-read_number : (quote : ℕ) → IsQuote quote → (xs rest : List ℕ) (m : Meaning) (form : Form) (digits : List ℕ) → xs ≡ 92 ∷ opening form ++ digits → length digits ≡ count form →
-    list_all (is_digit_of (base form)) digits ≡ true → means form (number_from (base form) 0 digits) ≡ Some m → Read quote xs rest m
+read_number : (quote : ℕ) → IsQuote quote → (xs rest : List ℕ) (m : Meaning) (form : Form) (digits : List ℕ) → xs ≡ 92 ∷ escape_prefix form ++ digits → length digits ≡ count form →
+    list_all (is_digit_of (escape_base form)) digits ≡ true → means form (number_from (escape_base form) 0 digits) ≡ Some m → Read quote xs rest m
 read_number quote q xs rest m Octal [] e size all meaning = absurd (omega arith)
 read_number quote q xs rest m Octal (d ∷ ds) e size all meaning =
     let first = and_left (is_digit_of 8 d) (list_all (is_digit_of 8) ds) all in

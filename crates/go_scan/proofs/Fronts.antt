@@ -14,7 +14,7 @@ use Rattle.go_scan.specs.Numbers.{begins_number, is_in_run}
 use Rattle.go_scan.specs.Punctuations.{punctuation_spelling}
 use Rattle.go_scan.specs.Strings.{Part}
 use Rattle.go_scan.specs.Words.{IsWord}
-use Rattle.go_scan.specs.Lex.{is_blank, Spells, Piece, Begins, BeginsNone}
+use Rattle.go_scan.specs.Lex.{is_white_space, Spells, Piece, Begins, BeginsNone}
 use Rattle.go_scan.specs.Fronts.{word_kind, word_at, run_at, string_at, raw_at, rune_at, before_close, block_shape, mark_at, slash_at, may_begin_word, other_at, no_word_at, no_blank_at, front}
 use Rattle.go_scan.proofs.Keys.{no_keyword_in, keyword_some}
 use Rattle.go_scan.proofs.Runs.{and_left, and_right, run_le, run_all, run_some, Good, good_if, Fits}
@@ -25,12 +25,12 @@ use Rattle.go_scan.proofs.LiteralFronts.{rune_good, rune_fits, raw_good, raw_fit
 use Rattle.go_scan.proofs.MarkFronts.{mark_good, mark_fits}
 
 -- what is found is spelled so
-blanks_good : (b : ℕ) (bs : List ℕ) → is_blank b ≡ true → Good (b ∷ bs) (Some (Blanks, prefix_len is_blank (b ∷ bs)))
+blanks_good : (b : ℕ) (bs : List ℕ) → is_white_space b ≡ true → Good (b ∷ bs) (Some (Blanks, prefix_len is_white_space (b ∷ bs)))
 blanks_good b bs e =
-    let all = run_all is_blank (b ∷ bs) in
-    let size : prefix_len is_blank (b ∷ bs) ≡ suc (prefix_len is_blank bs) = ap (λ x. cond x (1 + prefix_len is_blank bs) 0) e ∙ one-add (prefix_len is_blank bs) in
-    let front : take (prefix_len is_blank (b ∷ bs)) (b ∷ bs) ≡ b ∷ take (prefix_len is_blank bs) bs = ap (λ k. take k (b ∷ bs)) size in
-    ((b, take (prefix_len is_blank bs) bs, front, ap (list_all is_blank) (sym front) ∙ all.0), run_some is_blank b bs e, all.1)
+    let all = run_all is_white_space (b ∷ bs) in
+    let size : prefix_len is_white_space (b ∷ bs) ≡ suc (prefix_len is_white_space bs) = ap (λ x. cond x (1 + prefix_len is_white_space bs) 0) e ∙ one-add (prefix_len is_white_space bs) in
+    let front : take (prefix_len is_white_space (b ∷ bs)) (b ∷ bs) ≡ b ∷ take (prefix_len is_white_space bs) bs = ap (λ k. take k (b ∷ bs)) size in
+    ((b, take (prefix_len is_white_space bs) bs, front, ap (list_all is_white_space) (sym front) ∙ all.0), run_some is_white_space b bs e, all.1)
 
 slash_good : (bs : List ℕ) → Good (47 ∷ bs) (slash_at (47 ∷ bs) bs)
 slash_good [] = mark_good (47 ∷ [])
@@ -50,7 +50,7 @@ other_good b bs =
 pub good : (text : List ℕ) → Good text (front text)
 good [] = tt
 good (b ∷ bs) =
-    good_if (b ∷ bs) (is_blank b) _ _ (λ t. blanks_good b bs t) (λ _.
+    good_if (b ∷ bs) (is_white_space b) _ _ (λ t. blanks_good b bs t) (λ _.
     good_if (b ∷ bs) (may_begin_word b) _ _ (λ _. word_good (b ∷ bs)) (λ _.
     good_if (b ∷ bs) (begins_number (b ∷ bs)) _ _ (λ t. run_good b bs t) (λ _.
     other_good b bs)))
@@ -58,21 +58,21 @@ good (b ∷ bs) =
 -- where each family of pieces is found
 front_word : (text : List ℕ) → 1 ≤ length text → may_begin_word (get_or text 0 0) ≡ true → front text ≡ word_at text
 front_word [] some e = absurd (omega arith)
-front_word (b ∷ bs) some e = ap (λ x. cond x (Some (Blanks, prefix_len is_blank (b ∷ bs))) (no_blank_at b bs)) (no_blank b e) ∙ ap (λ x. cond x (word_at (b ∷ bs)) (no_word_at b bs)) e
+front_word (b ∷ bs) some e = ap (λ x. cond x (Some (Blanks, prefix_len is_white_space (b ∷ bs))) (no_blank_at b bs)) (no_blank b e) ∙ ap (λ x. cond x (word_at (b ∷ bs)) (no_word_at b bs)) e
   where
-    no_blank : (b : ℕ) → may_begin_word b ≡ true → is_blank b ≡ false
+    no_blank : (b : ℕ) → may_begin_word b ≡ true → is_white_space b ≡ false
     no_blank b e = grind (arith, nat_tests)
 
 front_run : (text : List ℕ) → begins_number text ≡ true → front text ≡ run_at text
 front_run [] e = cc
 front_run (b ∷ bs) e =
-    ap (λ x. cond x (Some (Blanks, prefix_len is_blank (b ∷ bs))) (no_blank_at b bs)) (number_no_blank b bs e)
+    ap (λ x. cond x (Some (Blanks, prefix_len is_white_space (b ∷ bs))) (no_blank_at b bs)) (number_no_blank b bs e)
     ∙ ap (λ x. cond x (word_at (b ∷ bs)) (no_word_at b bs)) (number_no_word b bs e)
     ∙ ap (λ x. cond x (run_at (b ∷ bs)) (other_at b bs)) e
 
 -- the bytes that begin punctuation alone
 abbrev is_plain_mark : ℕ → Bool
-is_plain_mark b = not (is_blank b) && (not (may_begin_word b) && (not (is_ascii_digit b) && (not (nat_eq b 46) && (not (nat_eq b 34) && (not (nat_eq b 96) && (not (nat_eq b 39) && not (nat_eq b 47)))))))
+is_plain_mark b = not (is_white_space b) && (not (may_begin_word b) && (not (is_ascii_digit b) && (not (nat_eq b 46) && (not (nat_eq b 34) && (not (nat_eq b 96) && (not (nat_eq b 39) && not (nat_eq b 47)))))))
 
 not_false : (x : Bool) → not x ≡ true → x ≡ false
 not_false true e = sym e
@@ -84,8 +84,8 @@ no_number b (c ∷ bs) d e = ap (λ x. x || (nat_eq b 46 && is_ascii_digit c)) d
 
 plain_front : (b : ℕ) (bs : List ℕ) → is_plain_mark b ≡ true → front (b ∷ bs) ≡ mark_at (b ∷ bs)
 plain_front b bs e =
-    let blank = and_left (not (is_blank b)) _ e in
-    let e1 = and_right (not (is_blank b)) _ e in
+    let blank = and_left (not (is_white_space b)) _ e in
+    let e1 = and_right (not (is_white_space b)) _ e in
     let word = and_left (not (may_begin_word b)) _ e1 in
     let e2 = and_right (not (may_begin_word b)) _ e1 in
     let digit = and_left (not (is_ascii_digit b)) _ e2 in
@@ -98,7 +98,7 @@ plain_front b bs e =
     let e6 = and_right (not (nat_eq b 96)) _ e5 in
     let single = and_left (not (nat_eq b 39)) _ e6 in
     let slash = and_right (not (nat_eq b 39)) _ e6 in
-    ap (λ x. cond x (Some (Blanks, prefix_len is_blank (b ∷ bs))) (no_blank_at b bs)) (not_false (is_blank b) blank)
+    ap (λ x. cond x (Some (Blanks, prefix_len is_white_space (b ∷ bs))) (no_blank_at b bs)) (not_false (is_white_space b) blank)
     ∙ ap (λ x. cond x (word_at (b ∷ bs)) (no_word_at b bs)) (not_false (may_begin_word b) word)
     ∙ ap (λ x. cond x (run_at (b ∷ bs)) (other_at b bs)) (no_number b bs (not_false (is_ascii_digit b) digit) (not_false (nat_eq b 46) dot))
     ∙ ap (λ x. cond x (string_at bs) (cond (nat_eq b 96) (raw_at bs) (cond (nat_eq b 39) (rune_at bs) (cond (nat_eq b 47) (slash_at (b ∷ bs) bs) (mark_at (b ∷ bs)))))) (not_false (nat_eq b 34) double)
@@ -215,9 +215,9 @@ quoted_fits s quote inner xs rest e f =
 -- where a piece is spelled, it is found, or something longer
 pub fits : (s : Shape) (xs rest : List ℕ) → Spells s xs → Fits s (length xs) (front (xs ++ rest))
 fits Blanks xs rest (b, bs, e, all) =
-    let found : front (b ∷ bs ++ rest) ≡ Some (Blanks, prefix_len is_blank (b ∷ bs ++ rest)) = ap (λ x. cond x (Some (Blanks, prefix_len is_blank (b ∷ bs ++ rest))) (no_blank_at b (bs ++ rest))) (and_left (is_blank b) (list_all is_blank bs) all) in
+    let found : front (b ∷ bs ++ rest) ≡ Some (Blanks, prefix_len is_white_space (b ∷ bs ++ rest)) = ap (λ x. cond x (Some (Blanks, prefix_len is_white_space (b ∷ bs ++ rest))) (no_blank_at b (bs ++ rest))) (and_left (is_white_space b) (list_all is_white_space bs) all) in
     subst (λ (ys : List ℕ). Fits Blanks (length ys) (front (ys ++ rest))) (sym e)
-    (subst (Fits Blanks (length (b ∷ bs))) (sym found) (run_le is_blank (b ∷ bs) rest all, λ _. refl))
+    (subst (Fits Blanks (length (b ∷ bs))) (sym found) (run_le is_white_space (b ∷ bs) rest all, λ _. refl))
 fits LineComment xs rest (tail, e, all) =
     subst (λ (ys : List ℕ). Fits LineComment (length ys) (front (ys ++ rest))) (sym e) (line_fits tail rest all)
 fits BlockComment xs rest (tail, e, none) =

@@ -1,14 +1,14 @@
-pub mod CommentFronts
-pub mod Digits
-pub mod EscapeFronts
+mod CommentFronts
+mod Digits
+mod EscapeFronts
 pub mod Fronts
-pub mod Keys
+mod Keys
 pub mod KindsEqual
 pub mod LiteralFronts
-pub mod MarkFronts
-pub mod NumberFronts
+mod MarkFronts
+mod NumberFronts
 pub mod Rows
 pub mod Runs
 pub mod Spelled
-pub mod Steps
-pub mod WordFronts
+mod Steps
+mod WordFronts

@@ -13,11 +13,11 @@ use Rattle.go_scan.specs.declared.escapes.Meaning.{Meaning}
 use Rattle.go_scan.specs.declared.shape.Shape.TheVariants.{Word}
 use Rattle.go_scan.specs.declared.token.TokenKind.{TokenKind}
 use Rattle.go_scan.specs.declared.token.TokenKind.TheVariants as kinds
-use Rattle.go_scan.specs.Escapes.{bytes_of}
+use Rattle.go_scan.specs.Escapes.{escape_bytes}
 use Rattle.go_scan.specs.Lex.{Spells}
 use Rattle.go_scan.specs.Runes.{is_plain_rune, IsRunePart, RuneMeans, IsRune, RuneValue}
-use Rattle.go_scan.specs.Strings.{is_plain, Part, IsPart, is_in_raw, is_kept, StringMeans, IsString, StringValue}
-use Rattle.go_scan.specs.Fronts.{strides, escape_at, escaped_rune, plain_rune, rune_part_at, closed_at, rune_at, escaped_part, part_at, size_of, part_size, values, string_at, raw_at, is_whole, is_rune, is_string, code_or_zero, rune_meaning, rune_value_of, string_meaning, string_value_of}
+use Rattle.go_scan.specs.Strings.{is_plain_byte, Part, IsPart, is_in_raw, is_kept, StringMeans, IsString, StringValue}
+use Rattle.go_scan.specs.Fronts.{strides, escape_at, escaped_rune, plain_rune, rune_part_at, closed_at, rune_at, escaped_part, part_at, front_size, part_size, values, string_at, raw_at, is_whole, is_rune, is_string_front, code_or_zero, rune_meaning, rune_value_of, string_meaning, string_value_of}
 use Rattle.go_scan.proofs.EscapeFronts.{escape_found, escape_read, single_quote, double_quote}
 use Rattle.go_scan.proofs.Runs.{run_all, run_stop, strides_on, strides_stop, Good, Fits}
 
@@ -150,13 +150,13 @@ part_sound (b ∷ bs) = by_test (nat_eq b 92) refl
     by_found None e = tt
     by_found (Some (n, m)) e = let f = escape_found 34 bs n m e in record { some = omega (arith, f.some); within = f.within; part = inr (m, f.escape, refl) }
 
-    by_plain : (t : Bool) → is_plain b ≡ t → PartSound (b ∷ bs) (cond t (Some (1, b ∷ [])) None)
+    by_plain : (t : Bool) → is_plain_byte b ≡ t → PartSound (b ∷ bs) (cond t (Some (1, b ∷ [])) None)
     by_plain false e = tt
     by_plain true e = record { some = omega arith; within = omega arith; part = inl (b, refl, e, refl) }
 
-    by_test : (t : Bool) → nat_eq b 92 ≡ t → PartSound (b ∷ bs) (cond t (escaped_part (escape_at 34 bs)) (cond (is_plain b) (Some (1, b ∷ [])) None))
+    by_test : (t : Bool) → nat_eq b 92 ≡ t → PartSound (b ∷ bs) (cond t (escaped_part (escape_at 34 bs)) (cond (is_plain_byte b) (Some (1, b ∷ [])) None))
     by_test true e = subst (λ x. PartSound (x ∷ bs) (escaped_part (escape_at 34 bs))) (sym (eqb-true b 92 e)) (by_found (escape_at 34 bs) refl)
-    by_test false e = by_plain (is_plain b) refl
+    by_test false e = by_plain (is_plain_byte b) refl
 
 pub part_found : (text : List ℕ) (p : ℕ × List ℕ) → part_at text ≡ Some p → PartFound text p.0 p.1
 part_found text p e = subst (PartSound text) e (part_sound text)
@@ -164,13 +164,13 @@ part_found text p e = subst (PartSound text) e (part_sound text)
 pub part_size_le : (text : List ℕ) → part_size text ≤ length text
 part_size_le text = by_found (part_at text) refl
   where
-    by_found : (o : Option (ℕ × List ℕ)) → part_at text ≡ o → size_of o ≤ length text
+    by_found : (o : Option (ℕ × List ℕ)) → part_at text ≡ o → front_size o ≤ length text
     by_found None e = omega arith
     by_found (Some p) e = (part_found text p e).within
 
 pub part_read : (p : Part) (rest : List ℕ) → IsPart p → (part_at (p.bytes ++ rest) ≡ Some (length p.bytes, p.value)) × (1 ≤ length p.bytes)
 part_read p rest (inl (b, e, plain, value)) = (
-  ap (λ ys. part_at (ys ++ rest)) e ∙ ap (λ t. cond t (escaped_part (escape_at 34 rest)) (cond (is_plain b) (Some (1, b ∷ [])) None)) other ∙ ap (λ t. cond t (Some (1, b ∷ [])) None) plain
+  ap (λ ys. part_at (ys ++ rest)) e ∙ ap (λ t. cond t (escaped_part (escape_at 34 rest)) (cond (is_plain_byte b) (Some (1, b ∷ [])) None)) other ∙ ap (λ t. cond t (Some (1, b ∷ [])) None) plain
       ∙ ap (λ n. Some (n, b ∷ [])) (let one : 1 ≡ length p.bytes = omega (arith, ap (λ (ys : List ℕ). length ys) e) in one) ∙ ap (λ v. Some (length p.bytes, v)) (sym value),
   omega (arith, ap (λ (ys : List ℕ). length ys) e),
 )
@@ -221,7 +221,7 @@ parts_read (p ∷ ps) rest all = by_size (length p.bytes) refl (parts_read ps re
         let more : List ℕ = flat_map (λ (q : Part). q.bytes) ps ++ 34 ∷ rest in
         let read = (part_read p more all.0).0 in
         let behind : drop (length p.bytes) (p.bytes ++ more) ≡ more = drop-append_seam p.bytes more in
-        let on = strides_on part_size n (p.bytes ++ more) (ap size_of read ∙ e) (omega (arith, e, length-append p.bytes more)) in
+        let on = strides_on part_size n (p.bytes ++ more) (ap front_size read ∙ e) (omega (arith, e, length-append p.bytes more)) in
         let same : strides part_size 0 (drop (suc n) (p.bytes ++ more)) ≡ strides part_size 0 more = ap (λ k. strides part_size 0 (drop k (p.bytes ++ more))) (sym e) ∙ ap (strides part_size 0) behind in
         record {
           size = ap (strides part_size 0) whole ∙ omega (arith, on, same, ih.size, e, length-append p.bytes (flat_map (λ (q : Part). q.bytes) ps));
@@ -244,7 +244,7 @@ parts_taken (suc m) (b ∷ bs) le = by_found (part_at (b ∷ bs)) refl (λ ys sh
     by_size p zero size e rec = absurd (omega (arith, (part_found (b ∷ bs) p e).some))
     by_size p (suc n) size e rec =
         let f = part_found (b ∷ bs) p e in
-        let on = strides_on part_size n (b ∷ bs) (ap size_of e ∙ size) (omega (arith, f.within)) in
+        let on = strides_on part_size n (b ∷ bs) (ap front_size e ∙ size) (omega (arith, f.within)) in
         let w = rec (drop (suc n) (b ∷ bs)) (omega (arith, length-drop (suc n) (b ∷ bs))) in
         let part : Part = record { bytes = take p.0 (b ∷ bs); value = p.1 } in (
           part ∷ w.0,
@@ -256,7 +256,7 @@ parts_taken (suc m) (b ∷ bs) le = by_found (part_at (b ∷ bs)) refl (λ ys sh
         )
 
     by_found : (o : Option (ℕ × List ℕ)) → part_at (b ∷ bs) ≡ o → ((ys : List ℕ) → length ys ≤ m → PartsTaken ys) → PartsTaken (b ∷ bs)
-    by_found None e rec = ([], tt, ap (λ k. take k (b ∷ bs)) (strides_stop part_size (b ∷ bs) (ap size_of e)))
+    by_found None e rec = ([], tt, ap (λ k. take k (b ∷ bs)) (strides_stop part_size (b ∷ bs) (ap front_size e)))
     by_found (Some p) e rec = by_size p p.0 refl e rec
 
 pub string_good : (rest : List ℕ) → Good (34 ∷ rest) (string_at rest)
@@ -321,13 +321,13 @@ rune_untested (b ∷ bs) e = by_test (nat_eq b 39) refl e
     by_test false t w = cc
     by_test true t w = subst (λ x. IsRune (x ∷ bs)) (sym (eqb-true b 39 t)) (by_part (rune_part_at bs) (rune_good bs) w)
 
-string_tested : (bytes : List ℕ) → IsString bytes → is_string bytes ≡ true
+string_tested : (bytes : List ℕ) → IsString bytes → is_string_front bytes ≡ true
 string_tested bytes (value, inl (parts, all, e, v)) =
-    ap is_string e ∙ whole_closed kinds.String 34 (flat_map (λ (p : Part). p.bytes) parts) _ (parts_read parts [] all).size
+    ap is_string_front e ∙ whole_closed kinds.String 34 (flat_map (λ (p : Part). p.bytes) parts) _ (parts_read parts [] all).size
 string_tested bytes (value, inr (inner, e, all, v)) =
-    ap is_string e ∙ whole_closed kinds.String 96 inner _ (run_stop is_in_raw inner 96 [] all refl)
+    ap is_string_front e ∙ whole_closed kinds.String 96 inner _ (run_stop is_in_raw inner 96 [] all refl)
 
-string_untested : (bytes : List ℕ) → is_string bytes ≡ true → IsString bytes
+string_untested : (bytes : List ℕ) → is_string_front bytes ≡ true → IsString bytes
 string_untested [] e = cc
 string_untested (b ∷ bs) e = by_quote (nat_eq b 34) refl e
   where
@@ -348,9 +348,9 @@ rune_has bytes = by_test (is_rune bytes) refl
     by_test true e = let r = rune_untested bytes e in inl (subst (RuneMeans bytes) (sym (rune_is bytes r.0 r.1)) r.1)
 
 string_has : (bytes : List ℕ) → StringValue bytes (string_value_of bytes)
-string_has bytes = by_test (is_string bytes) refl
+string_has bytes = by_test (is_string_front bytes) refl
   where
-    by_test : (c : Bool) → is_string bytes ≡ c → StringValue bytes (cond c (string_meaning bytes) [])
+    by_test : (c : Bool) → is_string_front bytes ≡ c → StringValue bytes (cond c (string_meaning bytes) [])
     by_test false e = inr ((λ r. let both : false ≡ true = sym e ∙ string_tested bytes r in cc (both)), refl)
     by_test true e = let r = string_untested bytes e in inl (subst (StringMeans bytes) (sym (string_is bytes r.0 r.1)) r.1)
 
@@ -373,16 +373,16 @@ pub string_valued : (bytes value : List ℕ) → StringValue bytes value ↔ (va
 string_valued bytes value = ((λ v. one_string_value bytes value (string_value_of bytes) v (string_has bytes)), (λ e. subst (StringValue bytes) (sym e) (string_has bytes)))
 
 -- a step of a loop over the parts of a string
-pub values_step : (bytes : List ℕ) (at size : ℕ) (m : Meaning) (old new : List ℕ) → Some (size, bytes_of m) ≡ part_at (take (length bytes - at) (drop at bytes)) → at ≤ length bytes →
-    new ≡ old ++ bytes_of m → old ++ values 0 (drop at bytes) ≡ values 0 bytes → (new ++ values 0 (drop (at + size) bytes) ≡ values 0 bytes) × (at + size ≤ length bytes) × (1 ≤ size)
+pub values_step : (bytes : List ℕ) (at size : ℕ) (m : Meaning) (old new : List ℕ) → Some (size, escape_bytes m) ≡ part_at (take (length bytes - at) (drop at bytes)) → at ≤ length bytes →
+    new ≡ old ++ escape_bytes m → old ++ values 0 (drop at bytes) ≡ values 0 bytes → (new ++ values 0 (drop (at + size) bytes) ≡ values 0 bytes) × (at + size ≤ length bytes) × (1 ≤ size)
 values_step bytes at size m old new found within added before =
-    let here : part_at (drop at bytes) ≡ Some (size, bytes_of m) = ap part_at (sym (take_rest bytes at)) ∙ sym found in
-    let f = part_found (drop at bytes) (size, bytes_of m) here in
-    let on : values 0 (drop at bytes) ≡ bytes_of m ++ values 0 (drop size (drop at bytes)) = values_on (drop at bytes) (size, bytes_of m) here in
+    let here : part_at (drop at bytes) ≡ Some (size, escape_bytes m) = ap part_at (sym (take_rest bytes at)) ∙ sym found in
+    let f = part_found (drop at bytes) (size, escape_bytes m) here in
+    let on : values 0 (drop at bytes) ≡ escape_bytes m ++ values 0 (drop size (drop at bytes)) = values_on (drop at bytes) (size, escape_bytes m) here in
     let behind : drop size (drop at bytes) ≡ drop (at + size) bytes = drop-drop size at bytes in (
       ap (λ ys. ys ++ values 0 (drop (at + size) bytes)) added
-          ∙ append_assoc old (bytes_of m) (values 0 (drop (at + size) bytes))
-          ∙ ap (λ ys. old ++ (bytes_of m ++ values 0 ys)) (sym behind)
+          ∙ append_assoc old (escape_bytes m) (values 0 (drop (at + size) bytes))
+          ∙ ap (λ ys. old ++ (escape_bytes m ++ values 0 ys)) (sym behind)
           ∙ ap (λ ys. old ++ ys) (sym on)
           ∙ before,
       omega (arith, f.within, length-drop at bytes),

@@ -6,7 +6,7 @@ use Rattle.go_scan.specs.declared.shape.Shape.{Shape}
 use Rattle.go_scan.specs.declared.shape.Shape.TheVariants.{Word}
 use Rattle.go_scan.specs.declared.token.TokenKind.TheVariants as kinds
 use Rattle.go_scan.specs.Punctuations.{punctuation_spelling}
-use Rattle.go_scan.specs.Fronts.{punctuation_in, mark_of, mark_at, or_else}
+use Rattle.go_scan.specs.Fronts.{punctuation_in, mark_of, mark_at, first_front}
 use Rattle.go_scan.proofs.Keys.{punctuation_found, punctuation_some, punctuation_of_spelling, mark_size}
 use Rattle.go_scan.proofs.Runs.{Good, Fits}
 
@@ -22,7 +22,7 @@ found_good text k = by_found (punctuation_in (take k text)) refl
         let size : length (take k text) ≡ length (punctuation_spelling p) = ap (λ (ys : List ℕ). length ys) spelled in
         (same ∙ spelled, omega (arith, size, (mark_size p).0), omega (arith, length-take k text))
 
-good_else : (text : List ℕ) (x y : Option (Shape × ℕ)) → Good text x → Good text y → Good text (or_else x y)
+good_else : (text : List ℕ) (x y : Option (Shape × ℕ)) → Good text x → Good text y → Good text (first_front x y)
 good_else text None y g h = h
 good_else text (Some x) y g h = g
 
@@ -34,11 +34,11 @@ abbrev FitsOrNone : Shape → ℕ → Option (Shape × ℕ) → Type 0
 FitsOrNone s n None = Unit {0}
 FitsOrNone s n (Some p) = (n ≤ p.1) × (p.1 ≡ n → p.0 ≡ s)
 
-fits_else : (s : Shape) (n : ℕ) (x y : Option (Shape × ℕ)) → FitsOrNone s n x → Fits s n y → Fits s n (or_else x y)
+fits_else : (s : Shape) (n : ℕ) (x y : Option (Shape × ℕ)) → FitsOrNone s n x → Fits s n y → Fits s n (first_front x y)
 fits_else s n None y f g = g
 fits_else s n (Some x) y f g = f
 
-found_first : (s : Shape) (n : ℕ) (x y : Option (Shape × ℕ)) → Fits s n x → Fits s n (or_else x y)
+found_first : (s : Shape) (n : ℕ) (x y : Option (Shape × ℕ)) → Fits s n x → Fits s n (first_front x y)
 found_first s n None y f = absurd f
 found_first s n (Some x) y f = f
 

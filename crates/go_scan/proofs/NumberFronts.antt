@@ -6,8 +6,8 @@ use Rattle.std.proofs.lemmas.Bool.Decides.{nat_tests}
 use Rattle.go_scan.specs.declared.shape.Shape.{Shape}
 use Rattle.go_scan.specs.declared.shape.Shape.TheVariants.{BadNumber, Word}
 use Rattle.go_scan.specs.declared.token.TokenKind.TheVariants as kinds
-use Rattle.go_scan.specs.Numbers.{begins_number, is_in_run, is_run, is_integer}
-use Rattle.go_scan.specs.Lex.{Spells, is_blank}
+use Rattle.go_scan.specs.Numbers.{begins_number, is_in_run, is_run, is_integer_literal}
+use Rattle.go_scan.specs.Lex.{Spells, is_white_space}
 use Rattle.go_scan.specs.Fronts.{run_shape, run_at, may_begin_word}
 use Rattle.go_scan.proofs.Runs.{and_left, and_right, run_le, run_all, run_some, Good, Fits, take_front}
 
@@ -34,10 +34,10 @@ number_no_word b bs e = by_first b (number_first b bs e)
     by_first : (b : ℕ) → (is_ascii_digit b || nat_eq b 46) ≡ true → may_begin_word b ≡ false
     by_first b e = grind (arith, nat_tests)
 
-pub number_no_blank : (b : ℕ) (bs : List ℕ) → begins_number (b ∷ bs) ≡ true → is_blank b ≡ false
+pub number_no_blank : (b : ℕ) (bs : List ℕ) → begins_number (b ∷ bs) ≡ true → is_white_space b ≡ false
 number_no_blank b bs e = by_first b (number_first b bs e)
   where
-    by_first : (b : ℕ) → (is_ascii_digit b || nat_eq b 46) ≡ true → is_blank b ≡ false
+    by_first : (b : ℕ) → (is_ascii_digit b || nat_eq b 46) ≡ true → is_white_space b ≡ false
     by_first b e = grind (arith, nat_tests)
 
 pub digit_in_run : (b : ℕ) → is_ascii_digit b ≡ true → is_in_run b ≡ true
@@ -75,9 +75,9 @@ run_begins (b ∷ c ∷ bs) e =
 
 -- a run is an integer literal or a bad number
 run_spells : (run : List ℕ) → is_run run ≡ true → Spells (run_shape run) run
-run_spells run e = by_test (is_integer run) refl
+run_spells run e = by_test (is_integer_literal run) refl
   where
-    by_test : (c : Bool) → is_integer run ≡ c → Spells (cond c (Word kinds.Integer) BadNumber) run
+    by_test : (c : Bool) → is_integer_literal run ≡ c → Spells (cond c (Word kinds.Integer) BadNumber) run
     by_test true i = (e, i)
     by_test false i = (e, i)
 

@@ -22,11 +22,11 @@ letter_escape quote b =
     else (if nat_eq b quote then Some quote else None))))))))
 
 -- what stands between the backslash and the digits of an escape by number: x before two of them, u before four, U before eight
-abbrev pub opening : Form → List ℕ
-opening Octal = []
-opening Two = 120 ∷ []
-opening Four = 117 ∷ []
-opening Eight = 85 ∷ []
+abbrev pub escape_prefix : Form → List ℕ
+escape_prefix Octal = []
+escape_prefix Two = 120 ∷ []
+escape_prefix Four = 117 ∷ []
+escape_prefix Eight = 85 ∷ []
 
 -- how many digits there are
 abbrev pub count : Form → ℕ
@@ -35,11 +35,11 @@ count Two = 2
 count Four = 4
 count Eight = 8
 
-abbrev pub base : Form → ℕ
-base Octal = 8
-base Two = 16
-base Four = 16
-base Eight = 16
+abbrev pub escape_base : Form → ℕ
+escape_base Octal = 8
+escape_base Two = 16
+escape_base Four = 16
+escape_base Eight = 16
 
 -- the number that digits write, behind others of value n
 abbrev pub number_from : ℕ → ℕ → List ℕ → ℕ
@@ -62,18 +62,18 @@ IsLetterEscape quote bytes m = (b : ℕ) × (c : ℕ) × (bytes ≡ 92 ∷ b ∷
 
 abbrev pub IsNumberEscape : List ℕ → Meaning → Type 0
 IsNumberEscape bytes m =
-    (form : Form) × (digits : List ℕ) × (bytes ≡ 92 ∷ opening form ++ digits) × (length digits ≡ count form)
-    × (list_all (is_digit_of (base form)) digits ≡ true) × (means form (number_from (base form) 0 digits) ≡ Some m)
+    (form : Form) × (digits : List ℕ) × (bytes ≡ 92 ∷ escape_prefix form ++ digits) × (length digits ≡ count form)
+    × (list_all (is_digit_of (escape_base form)) digits ≡ true) × (means form (number_from (escape_base form) 0 digits) ≡ Some m)
 
 -- the bytes are an escape in a literal between such quotes, and this is what it means
 abbrev pub IsEscape : ℕ → List ℕ → Meaning → Type 0
 IsEscape quote bytes m = IsLetterEscape quote bytes m ⊎ IsNumberEscape bytes m
 
 -- a meaning as a code point, and as the bytes of a string
-abbrev pub code_of : Meaning → ℕ
-code_of (Byte b) = b
-code_of (Character c) = c
+abbrev pub escape_code : Meaning → ℕ
+escape_code (Byte b) = b
+escape_code (Character c) = c
 
-abbrev pub bytes_of : Meaning → List ℕ
-bytes_of (Byte b) = b ∷ []
-bytes_of (Character c) = encode_utf8 c
+abbrev pub escape_bytes : Meaning → List ℕ
+escape_bytes (Byte b) = b ∷ []
+escape_bytes (Character c) = encode_utf8 c

@@ -17,13 +17,13 @@ use Rattle.go_scan.specs.declared.token.TokenKind.TheVariants as kinds
 use Rattle.go_scan.specs.Comments.{is_in_line}
 use Rattle.go_scan.specs.declared.escapes.Form.{Form}
 use Rattle.go_scan.specs.declared.escapes.Form.TheVariants.{Octal, Two, Four, Eight}
-use Rattle.go_scan.specs.Escapes.{opening, count, base, means, letter_escape, code_of, bytes_of}
+use Rattle.go_scan.specs.Escapes.{escape_prefix, count, escape_base, means, letter_escape, escape_code, escape_bytes}
 use Rattle.go_scan.specs.Keywords.{spelling}
-use Rattle.go_scan.specs.Lex.{is_blank}
-use Rattle.go_scan.specs.Numbers.{begins_number, is_in_run, is_digit_of, is_integer}
+use Rattle.go_scan.specs.Lex.{is_white_space}
+use Rattle.go_scan.specs.Numbers.{begins_number, is_in_run, is_digit_of, is_integer_literal}
 use Rattle.go_scan.specs.Punctuations.{punctuation_spelling}
 use Rattle.go_scan.specs.Runes.{is_plain_rune}
-use Rattle.go_scan.specs.Strings.{is_plain, is_in_raw, is_kept}
+use Rattle.go_scan.specs.Strings.{is_plain_byte, is_in_raw, is_kept}
 use Rattle.go_scan.specs.Words.{is_letter, is_inside}
 
 -- how many bytes steps over a text take, each of the size that f says, up to one of size 0; skip bytes are still of the step before
@@ -74,7 +74,7 @@ word_at text = elim (char_size is_letter text) [ zero ↦ None | suc k ↦ word_
 
 -- a number, or what begins as one
 abbrev pub run_shape : List ℕ → Shape
-run_shape run = if is_integer run then Word kinds.Integer else BadNumber
+run_shape run = if is_integer_literal run then Word kinds.Integer else BadNumber
 
 abbrev pub run_of : ℕ → List ℕ → Option (Shape × ℕ)
 run_of n text = Some (run_shape (take n text), n)
@@ -93,12 +93,12 @@ abbrev pub sized : ℕ → Option Meaning → Option (ℕ × Meaning)
 sized n None = None
 sized n (Some m) = Some (n, m)
 
-abbrev pub meant : Form → Option ℕ → Option (ℕ × Meaning)
-meant form None = None
-meant form (Some n) = sized (1 + length (opening form) + count form) (means form n)
+abbrev pub front_meaning : Form → Option ℕ → Option (ℕ × Meaning)
+front_meaning form None = None
+front_meaning form (Some n) = sized (1 + length (escape_prefix form) + count form) (means form n)
 
 abbrev pub number_escape_at : Form → List ℕ → Option (ℕ × Meaning)
-number_escape_at form text = meant form (digits_at (base form) (count form) 0 text)
+number_escape_at form text = front_meaning form (digits_at (escape_base form) (count form) 0 text)
 
 abbrev pub other_escape_at : ℕ → List ℕ → Option (ℕ × Meaning)
 other_escape_at b bs =
@@ -115,7 +115,7 @@ escape_at quote (b ∷ bs) = elim (letter_escape quote b) [ None ↦ other_escap
 -- a rune between its quotes: its size and code point
 abbrev pub escaped_rune : Option (ℕ × Meaning) → Option (ℕ × ℕ)
 escaped_rune None = None
-escaped_rune (Some e) = Some (e.0, code_of e.1)
+escaped_rune (Some e) = Some (e.0, escape_code e.1)
 
 abbrev pub plain_rune : ℕ → Option ℕ → Option (ℕ × ℕ)
 plain_rune size None = None
@@ -135,18 +135,18 @@ rune_at rest = elim (rune_part_at rest) [ None ↦ None | Some part ↦ closed_a
 -- a part of an interpreted string: its size and the bytes that it means
 abbrev pub escaped_part : Option (ℕ × Meaning) → Option (ℕ × List ℕ)
 escaped_part None = None
-escaped_part (Some e) = Some (e.0, bytes_of e.1)
+escaped_part (Some e) = Some (e.0, escape_bytes e.1)
 
 abbrev pub part_at : List ℕ → Option (ℕ × List ℕ)
 part_at [] = None
-part_at (b ∷ bs) = if nat_eq b 92 then escaped_part (escape_at 34 bs) else (if is_plain b then Some (1, b ∷ []) else None)
+part_at (b ∷ bs) = if nat_eq b 92 then escaped_part (escape_at 34 bs) else (if is_plain_byte b then Some (1, b ∷ []) else None)
 
-abbrev pub size_of : Option (ℕ × List ℕ) → ℕ
-size_of None = 0
-size_of (Some p) = p.0
+abbrev pub front_size : Option (ℕ × List ℕ) → ℕ
+front_size None = 0
+front_size (Some p) = p.0
 
 abbrev pub part_size : List ℕ → ℕ
-part_size text = size_of (part_at text)
+part_size text = front_size (part_at text)
 
 -- what the parts mean
 abbrev pub values : ℕ → List ℕ → List ℕ
@@ -205,16 +205,16 @@ punctuation_with b =
     else (if nat_eq b 59 then marks.Semicolon ∷ [] else []))))))))))))))))))))))
 
 -- the first of two, where there is one
-abbrev pub or_else : Option (Shape × ℕ) → Option (Shape × ℕ) → Option (Shape × ℕ)
-or_else None other = other
-or_else (Some x) other = Some x
+abbrev pub first_front : Option (Shape × ℕ) → Option (Shape × ℕ) → Option (Shape × ℕ)
+first_front None other = other
+first_front (Some x) other = Some x
 
 abbrev pub mark_of : List ℕ → Option (Shape × ℕ)
 mark_of bytes = elim (punctuation_in bytes) [ None ↦ None | Some p ↦ Some (Word (kinds.Punctuation p), length bytes) ]
 
 -- the longest of at most three bytes
 abbrev pub mark_at : List ℕ → Option (Shape × ℕ)
-mark_at text = or_else (mark_of (take 3 text)) (or_else (mark_of (take 2 text)) (mark_of (take 1 text)))
+mark_at text = first_front (mark_of (take 3 text)) (first_front (mark_of (take 2 text)) (mark_of (take 1 text)))
 
 -- what a slash begins
 abbrev pub slash_at : List ℕ → List ℕ → Option (Shape × ℕ)
@@ -246,7 +246,7 @@ no_blank_at b bs = if may_begin_word b then word_at (b ∷ bs) else no_word_at b
 -- what a text begins with, and how many bytes it takes
 abbrev pub front : List ℕ → Option (Shape × ℕ)
 front [] = None
-front (b ∷ bs) = if is_blank b then Some (Blanks, prefix_len is_blank (b ∷ bs)) else no_blank_at b bs
+front (b ∷ bs) = if is_white_space b then Some (Blanks, prefix_len is_white_space (b ∷ bs)) else no_blank_at b bs
 
 -- what is found takes so many bytes
 abbrev pub is_whole : ℕ → Option (Shape × ℕ) → Bool
@@ -258,9 +258,9 @@ abbrev pub is_rune : List ℕ → Bool
 is_rune [] = false
 is_rune (b ∷ bs) = is_whole (length bs + 1) (if nat_eq b 39 then rune_at bs else None)
 
-abbrev pub is_string : List ℕ → Bool
-is_string [] = false
-is_string (b ∷ bs) = is_whole (length bs + 1) (if nat_eq b 34 then string_at bs else (if nat_eq b 96 then raw_at bs else None))
+abbrev pub is_string_front : List ℕ → Bool
+is_string_front [] = false
+is_string_front (b ∷ bs) = is_whole (length bs + 1) (if nat_eq b 34 then string_at bs else (if nat_eq b 96 then raw_at bs else None))
 
 -- the values of literals, and 0 and no bytes for what is none
 abbrev pub code_or_zero : Option (ℕ × ℕ) → ℕ
@@ -278,4 +278,4 @@ string_meaning [] = []
 string_meaning (b ∷ bs) = if nat_eq b 34 then values 0 bs else filter is_kept (take (prefix_len is_in_raw bs) bs)
 
 abbrev pub string_value_of : List ℕ → List ℕ
-string_value_of bytes = if is_string bytes then string_meaning bytes else []
+string_value_of bytes = if is_string_front bytes then string_meaning bytes else []

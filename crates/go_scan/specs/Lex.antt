@@ -13,24 +13,24 @@ use Rattle.go_scan.specs.declared.token.TokenKind.TheVariants as kinds
 use Rattle.go_scan.specs.declared.punctuation.Punctuation.TheVariants as marks
 use Rattle.go_scan.specs.Comments.{IsLineComment, IsBlockComment, IsOpenComment, is_constraint}
 use Rattle.go_scan.specs.Keywords.{spelling, IsNoKeyword, keyword_ends_statement}
-use Rattle.go_scan.specs.Numbers.{is_run, is_integer, run_fault}
+use Rattle.go_scan.specs.Numbers.{is_run, is_integer_literal, run_fault}
 use Rattle.go_scan.specs.Punctuations.{punctuation_spelling, punctuation_ends_statement}
 use Rattle.go_scan.specs.Runes.{IsRune}
 use Rattle.go_scan.specs.Strings.{IsString}
 use Rattle.go_scan.specs.Words.{IsWord}
 
 -- space, tab, carriage return or newline
-abbrev pub is_blank : ℕ → Bool
-is_blank b = nat_eq b 32 || (nat_eq b 9 || (nat_eq b 13 || nat_eq b 10))
+abbrev pub is_white_space : ℕ → Bool
+is_white_space b = nat_eq b 32 || (nat_eq b 9 || (nat_eq b 13 || nat_eq b 10))
 
 abbrev pub AreBlanks : List ℕ → Type 0
-AreBlanks bytes = (b : ℕ) × (bs : List ℕ) × (bytes ≡ b ∷ bs) × (list_all is_blank (b ∷ bs) ≡ true)
+AreBlanks bytes = (b : ℕ) × (bs : List ℕ) × (bytes ≡ b ∷ bs) × (list_all is_white_space (b ∷ bs) ≡ true)
 
 -- how a token of each kind is spelled
 abbrev pub SpellsToken : TokenKind → List ℕ → Type 0
 SpellsToken kinds.Name bytes = IsWord bytes × IsNoKeyword bytes
 SpellsToken (kinds.Keyword k) bytes = bytes ≡ spelling k
-SpellsToken kinds.Integer bytes = (is_run bytes ≡ true) × (is_integer bytes ≡ true)
+SpellsToken kinds.Integer bytes = (is_run bytes ≡ true) × (is_integer_literal bytes ≡ true)
 SpellsToken kinds.Rune bytes = IsRune bytes
 SpellsToken kinds.String bytes = IsString bytes
 SpellsToken (kinds.Punctuation p) bytes = bytes ≡ punctuation_spelling p
@@ -41,7 +41,7 @@ Spells Blanks bytes = AreBlanks bytes
 Spells LineComment bytes = IsLineComment bytes
 Spells BlockComment bytes = IsBlockComment bytes
 Spells OpenComment bytes = IsOpenComment bytes
-Spells BadNumber bytes = (is_run bytes ≡ true) × (is_integer bytes ≡ false)
+Spells BadNumber bytes = (is_run bytes ≡ true) × (is_integer_literal bytes ≡ false)
 Spells (Word kind) bytes = SpellsToken kind bytes
 
 -- a piece of a text

@@ -47,9 +47,9 @@ is_behind_zero (b ∷ bs) =
     else are_spaced_digits 8 true (b ∷ bs)))
 
 -- an integer literal
-abbrev pub is_integer : List ℕ → Bool
-is_integer [] = false
-is_integer (b ∷ bs) = if nat_eq b 48 then is_behind_zero bs else (is_ascii_digit b && are_spaced_digits 10 true bs)
+abbrev pub is_integer_literal : List ℕ → Bool
+is_integer_literal [] = false
+is_integer_literal (b ∷ bs) = if nat_eq b 48 then is_behind_zero bs else (is_ascii_digit b && are_spaced_digits 10 true bs)
 
 -- a run that begins 0x or 0X
 abbrev pub is_hexadecimal : List ℕ → Bool

@@ -2,7 +2,7 @@
 use Rattle.std.specs.Prelude.{◌≡◌, ℕ, Bool, true, ◌⊎◌, ◌||◌, not, nat_eq, List, [], ◌∷◌, ◌++◌}
 use Rattle.std.specs.Char.{encode_utf8, IsScalar}
 use Rattle.go_scan.specs.declared.escapes.Meaning.{Meaning}
-use Rattle.go_scan.specs.Escapes.{IsEscape, code_of}
+use Rattle.go_scan.specs.Escapes.{IsEscape, escape_code}
 
 -- a character that stands for itself: no newline, single quote or backslash
 abbrev pub is_plain_rune : ℕ → Bool
@@ -12,7 +12,7 @@ is_plain_rune c = not (nat_eq c 10 || (nat_eq c 39 || nat_eq c 92))
 abbrev pub IsRunePart : List ℕ → ℕ → Type 0
 IsRunePart bytes code =
     ((bytes ≡ encode_utf8 code) × IsScalar code × (is_plain_rune code ≡ true))
-    ⊎ ((m : Meaning) × IsEscape 39 bytes m × (code ≡ code_of m))
+    ⊎ ((m : Meaning) × IsEscape 39 bytes m × (code ≡ escape_code m))
 
 -- the bytes are a rune literal, and this is its code point
 abbrev pub RuneMeans : List ℕ → ℕ → Type 0

@@ -2,11 +2,11 @@
 use Rattle.std.specs.Prelude.{◌≡◌, ℕ, Bool, true, ◌⊎◌, ◌||◌, not, nat_eq, List, [], ◌∷◌, ◌++◌}
 use Rattle.std.specs.List.{list_all, filter, flat_map, AllByRecursion}
 use Rattle.go_scan.specs.declared.escapes.Meaning.{Meaning}
-use Rattle.go_scan.specs.Escapes.{IsEscape, bytes_of}
+use Rattle.go_scan.specs.Escapes.{IsEscape, escape_bytes}
 
 -- a byte that stands for itself between double quotes: no newline, double quote or backslash
-abbrev pub is_plain : ℕ → Bool
-is_plain b = not (nat_eq b 10 || (nat_eq b 34 || nat_eq b 92))
+abbrev pub is_plain_byte : ℕ → Bool
+is_plain_byte b = not (nat_eq b 10 || (nat_eq b 34 || nat_eq b 92))
 
 -- a part of an interpreted string: its bytes, and the bytes that it means
 pub record Part : Type 0 where
@@ -16,8 +16,8 @@ pub record Part : Type 0 where
 -- a plain byte or an escape
 abbrev pub IsPart : Part → Type 0
 IsPart p =
-    ((b : ℕ) × (p.bytes ≡ b ∷ []) × (is_plain b ≡ true) × (p.value ≡ b ∷ []))
-    ⊎ ((m : Meaning) × IsEscape 34 p.bytes m × (p.value ≡ bytes_of m))
+    ((b : ℕ) × (p.bytes ≡ b ∷ []) × (is_plain_byte b ≡ true) × (p.value ≡ b ∷ []))
+    ⊎ ((m : Meaning) × IsEscape 34 p.bytes m × (p.value ≡ escape_bytes m))
 
 -- parts between double quotes
 abbrev pub InterpretedMeans : List ℕ → List ℕ → Type 0

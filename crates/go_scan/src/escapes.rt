@@ -1,6 +1,6 @@
 //! Escapes in rune and string literals.
 ghost use Rattle.std.specs.Prelude.{◌≡◌, ◌≤◌, ◌<◌, ◌^◌, length};
-ghost use Rattle.go_scan.specs.Escapes.{count, base, opening, means, letter_escape};
+ghost use Rattle.go_scan.specs.Escapes.{count, escape_base, escape_prefix, means, letter_escape};
 ghost use Rattle.go_scan.specs.Fronts.{digits_at, number_escape_at, other_escape_at, escape_at};
 
 /// What an escape means.
@@ -39,7 +39,7 @@ impl Form {
     }
 
     fn base(self) -> u32
-        ensures value { result ≡ base self }
+        ensures value { result ≡ escape_base self }
         ensures low { 2 ≤ result }
         ensures high { result ≤ 16 }
     {
@@ -51,7 +51,7 @@ impl Form {
 
     /// How many bytes stand between the backslash and the digits.
     fn opening_len(self) -> usize
-        ensures value { result ≡ length (opening self) }
+        ensures value { result ≡ length (escape_prefix self) }
         ensures few { result ≤ 1 }
     {
         match self {

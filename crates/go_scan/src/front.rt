@@ -1,7 +1,7 @@
 //! What a text begins with.
 ghost use Rattle.std.specs.Prelude.{◌≡◌, ◌≤◌, ◌+◌, ◌<◌, ◌^◌, length, take, IfSome};
 ghost use Rattle.std.specs.List.{prefix_len};
-ghost use Rattle.go_scan.specs.Lex.{is_blank};
+ghost use Rattle.go_scan.specs.Lex.{is_white_space};
 ghost use Rattle.go_scan.specs.Fronts.{mark_of, mark_at, slash_at, front};
 
 use crate::comments::{block_at, line_at};
@@ -13,13 +13,13 @@ use crate::token::TokenKind;
 use crate::words::{may_begin_word, word_at};
 
 fn is_blank(byte: u8) -> bool
-    ensures { result ≡ is_blank byte }
+    ensures { result ≡ is_white_space byte }
 {
     byte == b' ' || byte == b'\t' || byte == b'\r' || byte == b'\n'
 }
 
 fn blank_len(bytes: &[u8]) -> usize
-    ensures value { result ≡ prefix_len is_blank bytes.now }
+    ensures value { result ≡ prefix_len is_white_space bytes.now }
     ensures within { result ≤ length bytes.now }
 {
     bytes.iter().take_while(|byte| is_blank(**byte)).count()

@@ -2,8 +2,8 @@
 ghost use Rattle.std.specs.Prelude.{◌≡◌, ◌+◌, ◌≤◌, ◌<◌, ◌^◌, length};
 ghost use Rattle.std.specs.List.{prefix_len};
 ghost use Rattle.go_scan.specs.Runes.{is_plain_rune};
-ghost use Rattle.go_scan.specs.Strings.{is_plain, is_in_raw};
-ghost use Rattle.go_scan.specs.Escapes.{code_of};
+ghost use Rattle.go_scan.specs.Strings.{is_plain_byte, is_in_raw};
+ghost use Rattle.go_scan.specs.Escapes.{escape_code};
 ghost use Rattle.go_scan.specs.Fronts.{strides, rune_part_at, closed_at, rune_at, escaped_part, part_at, part_size, string_at, raw_at};
 
 use crate::escapes::{Meaning, escape_at};
@@ -12,7 +12,7 @@ use crate::token::TokenKind;
 use bstr::decode_utf8;
 
 fn code_of(meaning: Meaning) -> u32
-    ensures { result ≡ code_of meaning }
+    ensures { result ≡ escape_code meaning }
 {
     match meaning {
         Meaning::Byte(byte) => byte as u32,
@@ -74,7 +74,7 @@ pub fn rune_at(bytes: &[u8]) -> Option<(Shape, usize)>
 }
 
 fn is_plain(byte: u8) -> bool
-    ensures { result ≡ is_plain byte }
+    ensures { result ≡ is_plain_byte byte }
 {
     byte != b'\n' && byte != b'"' && byte != b'\\'
 }

@@ -1,7 +1,7 @@
 //! Numbers, and what begins as they do.
 ghost use Rattle.std.specs.Prelude.{◌≡◌, ◌≤◌, nat_eq, length};
 ghost use Rattle.std.specs.List.{list_any, prefix_len};
-ghost use Rattle.go_scan.specs.Numbers.{begins_number, is_in_run, is_digit_of, is_either, are_spaced_digits, are_prefixed_digits, is_behind_zero, is_integer, is_hexadecimal, ends_in_i, is_exponent, is_left_out, run_fault};
+ghost use Rattle.go_scan.specs.Numbers.{begins_number, is_in_run, is_digit_of, is_either, are_spaced_digits, are_prefixed_digits, is_behind_zero, is_integer_literal, is_hexadecimal, ends_in_i, is_exponent, is_left_out, run_fault};
 ghost use Rattle.go_scan.specs.Fronts.{run_shape, run_at};
 
 use crate::fault::ScanFault;
@@ -114,7 +114,7 @@ fn is_behind_zero(bytes: &[u8]) -> bool
 ///     int_lit     = decimal_lit | binary_lit | octal_lit | hex_lit .
 ///     decimal_lit = "0" | ( "1" … "9" ) [ [ "_" ] decimal_digits ] .
 fn is_integer(bytes: &[u8]) -> bool
-    ensures { result ≡ is_integer bytes.now }
+    ensures { result ≡ is_integer_literal bytes.now }
 {
     match bytes {
         [] => false,

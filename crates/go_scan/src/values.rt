@@ -1,10 +1,10 @@
 //! What rune and string literals mean.
 ghost use Rattle.std.specs.Prelude.{◌≡◌, ◌++◌, IfOk, OnOk};
 ghost use Rattle.std.specs.List.{filter};
-ghost use Rattle.go_scan.specs.Escapes.{bytes_of};
+ghost use Rattle.go_scan.specs.Escapes.{escape_bytes};
 ghost use Rattle.go_scan.specs.Strings.{is_kept, StringValue};
 ghost use Rattle.go_scan.specs.Runes.{RuneValue};
-ghost use Rattle.go_scan.specs.Fronts.{is_whole, is_rune, is_string, values, rune_meaning, rune_value_of, string_meaning, string_value_of};
+ghost use Rattle.go_scan.specs.Fronts.{is_whole, is_rune, is_string_front, values, rune_meaning, rune_value_of, string_meaning, string_value_of};
 
 use crate::escapes::Meaning;
 use crate::literals::{part_at, raw_at, raw_len, rune_at, rune_part_at, string_at};
@@ -31,7 +31,7 @@ fn is_rune(bytes: &[u8]) -> bool
 }
 
 fn is_string(bytes: &[u8]) -> bool
-    ensures { result ≡ is_string bytes.now }
+    ensures { result ≡ is_string_front bytes.now }
 {
     match bytes {
         [b'"', rest @ ..] => is_whole(bytes.len(), string_at(rest)),
@@ -69,7 +69,7 @@ pub fn rune_code(bytes: &[u8]) -> u32
 
 /// Adds the bytes that an escape means.
 fn push_meaning(value: &mut Vec<u8>, meaning: Meaning) -> Result<(), AllocError>
-    ensures { OnOk result (value.new.items ≡ value.old.items ++ bytes_of meaning) }
+    ensures { OnOk result (value.new.items ≡ value.old.items ++ escape_bytes meaning) }
 {
     match meaning {
         Meaning::Byte(byte) => {

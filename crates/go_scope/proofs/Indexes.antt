@@ -10,7 +10,7 @@ use Rattle.std.proofs.lemmas.List.{map-append}
 use Rattle.std.proofs.lemmas.Slice.Eq.{bytes_eq-Decides}
 use Rattle.indexmap.specs.IndexMap.{IndexMap, get, insert_entry}
 use Rattle.indexmap.proofs.CallerLemmas.{insert_entry-new}
-use Rattle.go_scope.specs.Index.{differ, AreFirsts}
+use Rattle.go_scope.specs.Index.{are_distinct, AreFirsts}
 use Rattle.go_scope.proofs.Lookups.{or_else, lookup_append}
 
 -- ---- the first that passes a test
@@ -152,7 +152,7 @@ turned_false : (x y : List ℕ) → bytes_eq x y ≡ false → bytes_eq y x ≡ 
 turned_false x y f = elim (cases_Bool (bytes_eq y x)) [ inl t ↦ (let no : true ≡ false = sym (turned y x t) ∙ f in cc (no)) | inr g ↦ g ]
 
 -- a name that stands before
-doubled_name : (xs ys : List (List ℕ)) (x : List ℕ) → list_any (bytes_eq x) xs ≡ true → differ (xs ++ x ∷ ys) ≡ false
+doubled_name : (xs ys : List (List ℕ)) (x : List ℕ) → list_any (bytes_eq x) xs ≡ true → are_distinct (xs ++ x ∷ ys) ≡ false
 doubled_name [] ys x h = cc
 doubled_name (y ∷ xs) ys x h = elim (cases_Bool (bytes_eq x y)) [
   | inl t ↦ rw (any_here (bytes_eq y) xs ys x (turned x y t)) refl
@@ -164,10 +164,10 @@ not_any true h = cc
 not_any false h = refl
 
 -- a name that doesn't
-new_name : (xs : List (List ℕ)) (x : List ℕ) → differ xs ≡ true → list_any (bytes_eq x) xs ≡ false → differ (xs ++ x ∷ []) ≡ true
+new_name : (xs : List (List ℕ)) (x : List ℕ) → are_distinct xs ≡ true → list_any (bytes_eq x) xs ≡ false → are_distinct (xs ++ x ∷ []) ≡ true
 new_name [] x d n = refl
 new_name (y ∷ xs) x d n =
-    let parts = and_true (not (list_any (bytes_eq y) xs)) (differ xs) d in
+    let parts = and_true (not (list_any (bytes_eq y) xs)) (are_distinct xs) d in
     elim (cases_Bool (bytes_eq x y)) [
       | inl t ↦ (let no : true ≡ false = rw t at n in cc (no))
       | inr f ↦ rw (none_more (bytes_eq y) xs x (not_any (list_any (bytes_eq y) xs) parts.0) (turned_false x y f)) (new_name xs x parts.1 (rw f at n))
@@ -175,7 +175,7 @@ new_name (y ∷ xs) x d n =
 
 -- names of which none stands twice, and others behind them
 abbrev pub Differing : List (List ℕ) → List (List ℕ) → List (List ℕ) → Type 0
-Differing names rest all = (names ++ rest ≡ all) × (differ names ≡ true)
+Differing names rest all = (names ++ rest ≡ all) × (are_distinct names ≡ true)
 
 pub differing_more : (names left rest all : List (List ℕ)) (x : List ℕ) → Differing names left all → left ≡ x ∷ rest → is_some (position (bytes_eq x) names) ≡ false → Differing (names ++ x ∷ []) rest all
 differing_more names left rest all x before is new = (
@@ -183,13 +183,13 @@ differing_more names left rest all x before is new = (
   new_name names x before.1 (sym (is_some_position (bytes_eq x) names) ∙ new),
 )
 
-pub differing_not : (names left rest all : List (List ℕ)) (x : List ℕ) → Differing names left all → left ≡ x ∷ rest → is_some (position (bytes_eq x) names) ≡ true → false ≡ differ all
+pub differing_not : (names left rest all : List (List ℕ)) (x : List ℕ) → Differing names left all → left ≡ x ∷ rest → is_some (position (bytes_eq x) names) ≡ true → false ≡ are_distinct all
 differing_not names left rest all x before is there =
-    sym (doubled_name names rest x (sym (is_some_position (bytes_eq x) names) ∙ there)) ∙ ap (λ (l : List (List ℕ)). differ (names ++ l)) (sym is) ∙ ap differ before.0
+    sym (doubled_name names rest x (sym (is_some_position (bytes_eq x) names) ∙ there)) ∙ ap (λ (l : List (List ℕ)). are_distinct (names ++ l)) (sym is) ∙ ap are_distinct before.0
 
 no_rest : (xs : List (List ℕ)) → xs ++ [] ≡ xs
 no_rest [] = refl
 no_rest (x ∷ xs) = ap (λ l. x ∷ l) (no_rest xs)
 
-pub differing_all : (names all : List (List ℕ)) → Differing names [] all → true ≡ differ all
-differing_all names all done = sym done.1 ∙ ap differ (sym (no_rest names) ∙ done.0)
+pub differing_all : (names all : List (List ℕ)) → Differing names [] all → true ≡ are_distinct all
+differing_all names all done = sym done.1 ∙ ap are_distinct (sym (no_rest names) ∙ done.0)

@@ -1,5 +1,5 @@
 pub mod Indexes
 pub mod Laws
-pub mod Lookups
-pub mod Orders
-pub mod Uses
+mod Lookups
+mod Orders
+mod Uses

@@ -6,9 +6,9 @@ use Rattle.std.specs.Map.{lookup}
 use Rattle.std.specs.Str.{bytes_eq}
 
 -- no name stands twice
-abbrev pub differ : List (List ℕ) → Bool
-differ [] = true
-differ (x ∷ xs) = not (list_any (bytes_eq x) xs) && differ xs
+abbrev pub are_distinct : List (List ℕ) → Bool
+are_distinct [] = true
+are_distinct (x ∷ xs) = not (list_any (bytes_eq x) xs) && are_distinct xs
 
 -- entries give each name the number under which it stands first
 abbrev pub AreFirsts : List (Bor (List ℕ) × ℕ) → List (List ℕ) → Type 0

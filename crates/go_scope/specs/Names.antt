@@ -1,6 +1,6 @@
 -- Which names types and expressions use. They bind none, so that each is looked up where the form stands.
 use Rattle.std.specs.Prelude.{ℕ, Bool, true, false, List, [], ◌∷◌, ◌++◌}
-use Rattle.go_ast.specs.Trees.{TypeExpr, named, qualified, array, slice, struct, Fields, no_fields, field, Expr, name, integer, rune, string, parenthesized, composite_lit, conversion, selector, index, cut, Bound, no_bound, bound, call, type_operand, unary, binary, Exprs, no_exprs, some_exprs, Elements, no_elements, element, Element, expression_element, value_element}
+use Rattle.go_ast.specs.Trees.{TypeExpr, named, qualified, array, slice, struct, FieldDecls, no_fields, field, Expression, name, integer, rune, string, parenthesized, composite_lit, conversion, selector, index, cut, Bound, no_bound, bound, call, type_operand, unary, binary, ExpressionList, no_exprs, some_exprs, Elements, no_elements, element, Element, expression_element, value_element}
 use Rattle.go_scope.specs.declared.names.UsedName.{UsedName}
 
 -- the text of a name that is used, and whether a dot follows it
@@ -15,12 +15,12 @@ abbrev mutual
   in_type (slice p t) = in_type t
   in_type (struct p fields) = in_fields fields
 
-  pub in_fields : Fields → List Used
+  pub in_fields : FieldDecls → List Used
   in_fields no_fields = []
   in_fields (field names t fields) = in_type t ++ in_fields fields
 
   -- of an expression, which a dot may follow
-  pub in_expr : Bool → Expr → List Used
+  pub in_expr : Bool → Expression → List Used
   in_expr dotted (name p x) = (x, dotted) ∷ []
   in_expr dotted (integer p x) = []
   in_expr dotted (rune p x) = []
@@ -40,7 +40,7 @@ abbrev mutual
   in_bound no_bound = []
   in_bound (bound e) = in_expr false e
 
-  pub in_exprs : Exprs → List Used
+  pub in_exprs : ExpressionList → List Used
   in_exprs no_exprs = []
   in_exprs (some_exprs e es) = in_expr false e ++ in_exprs es
 

@@ -13,8 +13,8 @@ pub record Placing (rows : List (List ℕ)) (placed : Placed) : Type 0 where
   pub once : Once placed.order.items
 
 -- how many aren't placed
-abbrev pub left : Placed → ℕ
-left placed = count_by not placed.marks.items
+abbrev pub unplaced_count : Placed → ℕ
+unplaced_count placed = count_by not placed.marks.items
 
 -- it is placed, or something that it needs isn't
 abbrev pub Settled : List (List ℕ) → Placed → ℕ → Type 0

@@ -5,13 +5,13 @@ use Rattle.std.specs.Map.{lookup}
 use Rattle.std.specs.Str.{bytes_eq}
 
 -- the names of a block, with what they stand for, in order of declaration
-abbrev pub Block : Type 0 → Type 0
-Block T = List (List ℕ × T)
+abbrev pub BlockNames : Type 0 → Type 0
+BlockNames T = List (List ℕ × T)
 
 -- the innermost block, and those round it from the inside out
 pub record Env (T : Type 0) : Type 0 where
-  pub inner : Block T
-  pub outer : List (Block T)
+  pub inner : BlockNames T
+  pub outer : List (BlockNames T)
 
 -- https://go.dev/ref/spec#Declarations_and_scope
 -- what a name stands for: a block hides the names of those round it
@@ -30,8 +30,8 @@ abbrev pub declare : {T : Type 0} → Env T → List ℕ → T → Env T
 declare env x t = if is_blank x then env else record { inner = env.inner ++ (x, t) ∷ []; outer = env.outer }
 
 -- into a block, and out of it again
-abbrev pub enter : {T : Type 0} → Env T → Env T
-enter env = record { inner = []; outer = env.inner ∷ env.outer }
+abbrev pub enter_block : {T : Type 0} → Env T → Env T
+enter_block env = record { inner = []; outer = env.inner ∷ env.outer }
 
-abbrev pub leave : {T : Type 0} → Env T → Env T
-leave env = elim env.outer [ [] ↦ env | block ∷ blocks ↦ record { inner = block; outer = blocks } ]
+abbrev pub leave_block : {T : Type 0} → Env T → Env T
+leave_block env = elim env.outer [ [] ↦ env | block ∷ blocks ↦ record { inner = block; outer = blocks } ]

@@ -15,12 +15,12 @@ pub(crate) struct Block<T: Drop> {
 
 impl<T: Drop> Model for Block<T> {
     ghost use Rattle.std.specs.Prelude.{map};
-    ghost use Rattle.go_scope.specs.Blocks.{named};
+    ghost use Rattle.go_scope.specs.Blocks.{named_entry};
     ghost use Rattle.go_scope.specs.Scopes as scopes;
 
-    ghost Value = { scopes.Block T };
+    ghost Value = { scopes.BlockNames T };
 
-    ghost view = { λ a. map named a.names.entries };
+    ghost view = { λ a. map named_entry a.names.entries };
 }
 
 impl<T: Drop> Block<T> {

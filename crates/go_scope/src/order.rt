@@ -4,7 +4,7 @@ ghost use Rattle.std.specs.List.{Contains};
 ghost use Rattle.ws_reach.specs.Reach.{Edge, EdgesStayWithin, rows_of};
 ghost use Rattle.ws_reach.specs.Worklist.{is_marked};
 ghost use Rattle.go_scope.specs.Order.{DependsOnItself, Grounded, Once, Ordered};
-ghost use Rattle.go_scope.specs.Placing.{Placing, Settled, left};
+ghost use Rattle.go_scope.specs.Placing.{Placing, Settled, unplaced_count};
 
 use std::alloc::{AllocError, Global};
 use ws_reach::{has_edge, walk};
@@ -81,7 +81,7 @@ fn have_marks(marks: &[bool], needs: &[usize]) -> bool
 fn place(rows: &[Vec<usize>], declaration: usize, placed: &mut Placed) -> Result<bool, AllocError>
     requires { Placing (rows_of rows.now) placed.old }
     ensures placing { OnOk result (Placing (rows_of rows.now) placed.new) }
-    ensures less { IfOk result (λ b. IsTrue b → left placed.new < left placed.old) }
+    ensures less { IfOk result (λ b. IsTrue b → unplaced_count placed.new < unplaced_count placed.old) }
     ensures same { IfOk result (λ b. ¬ IsTrue b → placed.new ≡ placed.old) }
     ensures settled { IfOk result (λ b. ¬ IsTrue b → declaration < length rows.now → Settled (rows_of rows.now) placed.new declaration) }
 {
@@ -100,7 +100,7 @@ fn place(rows: &[Vec<usize>], declaration: usize, placed: &mut Placed) -> Result
 fn sweep(rows: &[Vec<usize>], placed: &mut Placed) -> Result<bool, AllocError>
     requires { Placing (rows_of rows.now) placed.old }
     ensures placing { OnOk result (Placing (rows_of rows.now) placed.new) }
-    ensures less { IfOk result (λ b. IsTrue b → left placed.new < left placed.old) }
+    ensures less { IfOk result (λ b. IsTrue b → unplaced_count placed.new < unplaced_count placed.old) }
     ensures settled { IfOk result (λ b. ¬ IsTrue b → (i : ℕ) → i < length rows.now → Settled (rows_of rows.now) placed.new i) }
 {
     let mut grew = false;
@@ -117,7 +117,7 @@ fn sweep(rows: &[Vec<usize>], placed: &mut Placed) -> Result<bool, AllocError>
 fn follow(alloc: Global, rows: &[Vec<usize>], placed: &mut Placed) -> Result<(), AllocError>
     requires { Placing (rows_of rows.now) placed.old }
     ensures placing { OnOk result (Placing (rows_of rows.now) placed.new) }
-    ensures less { OnOk result (left placed.new ≤ left placed.old) }
+    ensures less { OnOk result (unplaced_count placed.new ≤ unplaced_count placed.old) }
 {
     let users = users_of(alloc, rows)?;
     let mut waits = waits_of(alloc, rows)?;
@@ -142,7 +142,7 @@ fn place_users(
 ) -> Result<(), AllocError>
     requires { Placing (rows_of rows.now) placed.old }
     ensures placing { OnOk result (Placing (rows_of rows.now) placed.new) }
-    ensures less { OnOk result (left placed.new ≤ left placed.old) }
+    ensures less { OnOk result (unplaced_count placed.new ≤ unplaced_count placed.old) }
 {
     for user in users {
         if is_last_wait(waits, *user) {

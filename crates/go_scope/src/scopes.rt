@@ -3,7 +3,7 @@ ghost use Rattle.std.specs.Prelude.{◌≡◌, ◌∷◌, List, [], map, reverse
 ghost use Rattle.std.specs.List.{flat_map};
 ghost use Rattle.std.specs.Map.{lookup};
 ghost use Rattle.std.specs.Str.{bytes_eq};
-ghost use Rattle.go_scope.specs.Scopes.{look_up, is_own, declare, enter, leave};
+ghost use Rattle.go_scope.specs.Scopes.{look_up, is_own, declare, enter_block, leave_block};
 ghost use Rattle.go_scope.specs.declared.scopes.DeclareError.TheVariants.{Memory, Redeclared};
 
 use crate::block::Block;
@@ -62,7 +62,7 @@ impl<T: Drop> Scopes<T> {
 
     /// Goes into a new block. An `Err` only where memory ran out, and changes nothing.
     pub fn enter(&mut self) -> Result<(), AllocError>
-        ensures ok { OnOk result (self.new ≡ enter self.old) }
+        ensures ok { OnOk result (self.new ≡ enter_block self.old) }
         ensures err { OnErr result (self.new ≡ self.old) }
     {
         let inner = std::mem::replace(&mut self.inner, Block::new(self.alloc));
@@ -77,7 +77,7 @@ impl<T: Drop> Scopes<T> {
 
     /// Goes out of the innermost block, if there is one round it.
     pub fn leave(&mut self)
-        ensures { self.new ≡ leave self.old }
+        ensures { self.new ≡ leave_block self.old }
     {
         if let Some(block) = self.outer.pop() {
             self.inner = block;

@@ -9,23 +9,23 @@ use Rattle.std.proofs.lemmas.List.{map-append}
 use Rattle.go_ast.specs.Trees.{Name}
 use Rattle.go_scope.specs.Scopes as scopes
 use Rattle.go_types.specs.Types.{Type'}
-use Rattle.go_types.specs.Views.{type_of}
+use Rattle.go_types.specs.Views.{go_type}
 use Rattle.go_types.specs.declared.types.GoType.{GoType}
 use Rattle.go_typed.specs.Trees.{local}
 use Rattle.go_expr.specs.declared.known.Declared.{Declared}
 use Rattle.go_expr.specs.declared.known.Declared.TheVariants.{Local}
 use Rattle.go_expr.specs.Known as known
-use Rattle.go_expr.specs.Seen.{declared_of}
+use Rattle.go_expr.specs.Views.{declared_of}
 use Rattle.go_scope.specs.Scopes.{is_blank}
-use Rattle.go_stmt.specs.Scopes.{Env, declare_new, declare_variable}
-use Rattle.go_stmt.specs.Seen.{shown_block}
+use Rattle.go_stmt.specs.Scopes.{StatementEnv, declare_new, declare_variable}
+use Rattle.go_stmt.specs.Views.{shown_block}
 use Rattle.go_stmt.proofs.Lookups.{own_shown, shown_more}
 
 abbrev pub shown_names : scopes.Env (Option Declared) → scopes.Env (Option known.Declared)
 shown_names names = record { inner = shown_block names.inner; outer = map shown_block names.outer }
 
-abbrev pub shown : scopes.Env (Option Declared) → List GoType → Env
-shown names types = record { names = shown_names names; types = map type_of types }
+abbrev pub shown : scopes.Env (Option Declared) → List GoType → StatementEnv
+shown names types = record { names = shown_names names; types = map go_type types }
 
 pub mapped_ok : {X E : Type 0} {P Q : Type 0} (r : Result X E) → (P → Q) → OnOk r P → OnOk r Q
 mapped_ok (Ok x) f h = f h
@@ -49,22 +49,22 @@ pub kept_own : (names : scopes.Env (Option Declared)) (types : List GoType) (n :
     shown names types ≡ declare_new ((n, t) ∷ []) (shown names types)
 kept_own names types n t other own = rw (other, own_same names n.text ∙ own) refl
 
-length_types : (types : List GoType) → length (map type_of types) ≡ length types
+length_types : (types : List GoType) → length (map go_type types) ≡ length types
 length_types [] = refl
 length_types (t ∷ ts) = ap suc (length_types ts)
 
 pub new_unknown : (names new : scopes.Env (Option Declared)) (types : List GoType) (x : List ℕ) → new ≡ scopes.declare names x None → shown new types ≡ declare_variable x None (shown names types)
-new_unknown names new types x is = ap (λ e. record { names = e; types = map type_of types }) (ap shown_names is ∙ declared_shown names x None)
+new_unknown names new types x is = ap (λ e. record { names = e; types = map go_type types }) (ap shown_names is ∙ declared_shown names x None)
 
-pub new_variable : (names new : scopes.Env (Option Declared)) (types : List GoType) (x : List ℕ) (of copy : GoType) → type_of copy ≡ type_of of →
-    new ≡ scopes.declare names x (Some (Local copy (length types))) → shown new (types ++ of ∷ []) ≡ declare_variable x (Some (type_of of)) (shown names types)
+pub new_variable : (names new : scopes.Env (Option Declared)) (types : List GoType) (x : List ℕ) (of copy : GoType) → go_type copy ≡ go_type of →
+    new ≡ scopes.declare names x (Some (Local copy (length types))) → shown new (types ++ of ∷ []) ≡ declare_variable x (Some (go_type of)) (shown names types)
 new_variable names new types x of copy same is =
     let before = scopes.declare (shown_names names) x in
-    ap (λ e. record { names = e; types = map type_of (types ++ of ∷ []) })
+    ap (λ e. record { names = e; types = map go_type (types ++ of ∷ []) })
     (ap shown_names is ∙ declared_shown names x (Some (Local copy (length types)))
     ∙ ap (λ t. before (Some (known.value (local t (length types))))) same
-    ∙ ap (λ k. before (Some (known.value (local (type_of of) k)))) (sym (length_types types)))
-    ∙ ap (λ l. record { names = before (Some (known.value (local (type_of of) (length (map type_of types))))); types = l }) (map-append type_of types (of ∷ []))
+    ∙ ap (λ k. before (Some (known.value (local (go_type of) k)))) (sym (length_types types)))
+    ∙ ap (λ l. record { names = before (Some (known.value (local (go_type of) (length (map go_type types))))); types = l }) (map-append go_type types (of ∷ []))
 
 pub new_one : (names : scopes.Env (Option Declared)) (types : List GoType) (n : Name) (t : Option Type') → is_blank n.text ≡ false → scopes.is_own names n.text ≡ false →
     declare_variable n.text t (shown names types) ≡ declare_new ((n, t) ∷ []) (shown names types)

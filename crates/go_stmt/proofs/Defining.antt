@@ -6,10 +6,10 @@ use Rattle.go_text.specs.declared.place.Place.{Place}
 use Rattle.go_expr.specs.Known.{Verdict, Fine, Breaks, Passed}
 use Rattle.go_expr.specs.Rules.{fine, checked}
 use Rattle.go_expr.specs.declared.error.ExprError.{ExprError}
-use Rattle.go_expr.specs.Seen.{Fails}
+use Rattle.go_expr.specs.Views.{Fails}
 use Rattle.go_expr.specs.Verdicts.{asked, broken}
-use Rattle.go_stmt.specs.Scopes.{Env, Checked, Faults, node}
-use Rattle.go_stmt.specs.Seen.{Answered}
+use Rattle.go_stmt.specs.Scopes.{StatementEnv, Checked, StatementFaults, node}
+use Rattle.go_stmt.specs.Views.{Answered}
 
 broken_then : {B C : Type 0} (p : Place) (f : B → C) (v : Verdict B) → broken p (checked (λ x. Fine (f x)) v) ≡ broken p v
 broken_then p f (Fine x) = refl
@@ -33,7 +33,7 @@ made_known f rule None = refl
 made_known f rule (Some x) = fine_then f (rule x)
 
 -- a node of what a rule gives of parts that have no fault
-pub made : {A B C : Type 0} (p : Place) (f : B → C) (rule : A → Verdict B) (parts : Env → Checked A) (env : Env) (o : Option A) (b : Option B) → (parts env).faults ≡ [] →
+pub made : {A B C : Type 0} (p : Place) (f : B → C) (rule : A → Verdict B) (parts : StatementEnv → Checked A) (env : StatementEnv) (o : Option A) (b : Option B) → (parts env).faults ≡ [] →
     (parts env).known ≡ o → broken p (asked rule o) ≡ [] → fine (asked rule o) ≡ b →
     ((node p (λ k. checked (λ x. Fine (f x)) (rule k)) parts env).faults ≡ []) × ((node p (λ k. checked (λ x. Fine (f x)) (rule k)) parts env).known ≡ option_map f b)
 made {A} {B} {C} p f rule parts env o b none known unbroken gives =
@@ -43,11 +43,11 @@ made {A} {B} {C} p f rule parts env o b none known unbroken gives =
     )
 
 -- the rule is broken
-pub made_fails : {A B C : Type 0} (e : ExprError) (p : Place) (f : B → C) (rule : A → Verdict B) (parts : Env → Checked A) (env : Env) (o : Option A) → (parts env).faults ≡ [] →
+pub made_fails : {A B C : Type 0} (e : ExprError) (p : Place) (f : B → C) (rule : A → Verdict B) (parts : StatementEnv → Checked A) (env : StatementEnv) (o : Option A) → (parts env).faults ≡ [] →
     (parts env).known ≡ o → Fails e (broken p (asked rule o)) → Fails e (node p (λ k. checked (λ x. Fine (f x)) (rule k)) parts env).faults
 made_fails {A} {B} {C} e p f rule parts env o none known h =
     let whole : A → Verdict C = λ k. checked (λ x. Fine (f x)) (rule k) in
-    subst (λ (l : Faults). Fails e l)
+    subst (λ (l : StatementFaults). Fails e l)
     (sym (ap (λ l. l ++ broken p (asked whole (parts env).known)) none ∙ ap (λ k. broken p (asked whole k)) known ∙ made_broken p f rule o)) h
 
 -- what comes back by `?`

@@ -2,10 +2,10 @@
 use Rattle.std.proofs.Common.{◌≡◌, Option, Some, List, [], ◌++◌, refl, sym, ap, ◌∙◌, subst}
 use Rattle.std.specs.Option.{option_map}
 use Rattle.go_expr.specs.declared.error.ExprError.{ExprError}
-use Rattle.go_expr.specs.Seen.{Fails}
+use Rattle.go_expr.specs.Views.{Fails}
 use Rattle.go_expr.specs.Verdicts.{both}
 use Rattle.go_expr.proofs.Lists.{fails_front}
-use Rattle.go_stmt.specs.Scopes.{Env, Checked, Faults, given, appended}
+use Rattle.go_stmt.specs.Scopes.{StatementEnv, Checked, StatementFaults, pure_checked, concat_checked}
 use Rattle.go_stmt.proofs.Sequences.{later_faults, later_after, joined_first, joined_last, appended_known}
 
 abbrev pub joined : {A : Type 0} → Option (List A) → Option (List A) → Option (List A)
@@ -25,7 +25,7 @@ begins all done none = record {
 }
 
 -- the first of what is left has no fault
-pub goes_on : {A : Type 0} (first second : Env → Checked (List A)) (env there : Env) (all rest : Checked (List A)) (done more next : Option (List A)) → rest ≡ appended first second env →
+pub goes_on : {A : Type 0} (first second : StatementEnv → Checked (List A)) (env there : StatementEnv) (all rest : Checked (List A)) (done more next : Option (List A)) → rest ≡ concat_checked first second env →
     Leads all done rest → (first env).faults ≡ [] → (first env).known ≡ next → there ≡ (first env).after → more ≡ joined done next → Leads all more (second there)
 goes_on first second env there all rest done more next same leads none known is grown = record {
   faults = sym (ap (λ r. r.faults) same ∙ later_faults first second env there none is) ∙ leads.faults;
@@ -34,17 +34,17 @@ goes_on first second env there all rest done more next same leads none known is 
 }
 
 -- it has one
-pub fails : {A : Type 0} (e : ExprError) (first second : Env → Checked (List A)) (env : Env) (all rest : Checked (List A)) (done : Option (List A)) → rest ≡ appended first second env →
+pub fails : {A : Type 0} (e : ExprError) (first second : StatementEnv → Checked (List A)) (env : StatementEnv) (all rest : Checked (List A)) (done : Option (List A)) → rest ≡ concat_checked first second env →
     Leads all done rest → Fails e (first env).faults → Fails e all.faults
 fails e first second env all rest done same leads h =
-    subst (λ (l : Faults). Fails e l) (sym (ap (λ r. r.faults) same) ∙ leads.faults) (fails_front e (first env).faults (second (first env).after).faults h)
+    subst (λ (l : StatementFaults). Fails e l) (sym (ap (λ r. r.faults) same) ∙ leads.faults) (fails_front e (first env).faults (second (first env).after).faults h)
 
 -- nothing is left
-pub ends : {A : Type 0} (env : Env) (all rest : Checked (List A)) (done : Option (List A)) → rest ≡ given [] env → Leads all done rest → (all.faults ≡ []) × (all.known ≡ done)
+pub ends : {A : Type 0} (env : StatementEnv) (all rest : Checked (List A)) (done : Option (List A)) → rest ≡ pure_checked [] env → Leads all done rest → (all.faults ≡ []) × (all.known ≡ done)
 ends env all rest done none leads = (
   sym leads.faults ∙ ap (λ r. r.faults) none,
   leads.known ∙ ap (λ r. joined done r.known) none ∙ joined_last done,
 )
 
-pub ends_at : {A : Type 0} (env : Env) (all rest : Checked (List A)) (done : Option (List A)) → rest ≡ given [] env → Leads all done rest → env ≡ all.after
+pub ends_at : {A : Type 0} (env : StatementEnv) (all rest : Checked (List A)) (done : Option (List A)) → rest ≡ pure_checked [] env → Leads all done rest → env ≡ all.after
 ends_at env all rest done none leads = sym (ap (λ r. r.after) none) ∙ leads.after

@@ -6,7 +6,7 @@ use Rattle.go_typed.specs.Trees.{Expr, constant, local, global, field, index, le
 use Rattle.go_ast.specs.Trees as trees
 use Rattle.go_expr.specs.Rules.{slice_element}
 use Rattle.go_stmt.specs.Rules.{is_array, left_to, is_left}
-use Rattle.go_stmt.specs.Scopes.{Env, Context}
+use Rattle.go_stmt.specs.Scopes.{StatementEnv, Context}
 use Rattle.go_stmt.specs.Statements.{blank_left, left_at, lefts_at}
 
 -- whether an expression is one doesn't depend on the steps behind it
@@ -39,9 +39,9 @@ pub slice_left : (t : Type') (e i : Expr) → is_array (expr_type e) ≡ false �
 slice_left t e i other = rw other (elim (cases_Bool (is_some (slice_element (expr_type e)))) [ inl slice ↦ rw slice refl | inr none ↦ rw none refl ])
 
 -- left sides declare nothing
-left_kept : (c : Context) (e : trees.Expr) (env : Env) → (left_at c e env).after ≡ env
+left_kept : (c : Context) (e : trees.Expression) (env : StatementEnv) → (left_at c e env).after ≡ env
 left_kept c e env = elim (cases_Bool (blank_left e)) [ inl blank ↦ rw blank refl | inr other ↦ rw other refl ]
 
-pub lefts_kept : (c : Context) (es : trees.Exprs) (env : Env) → (lefts_at c es env).after ≡ env
+pub lefts_kept : (c : Context) (es : trees.ExpressionList) (env : StatementEnv) → (lefts_at c es env).after ≡ env
 lefts_kept c trees.no_exprs env = refl
 lefts_kept c (trees.some_exprs e es) env = lefts_kept c es (left_at c e env).after ∙ left_kept c e env

@@ -1,18 +1,18 @@
-pub mod Blocks
-pub mod Clauses
-pub mod Declaring
-pub mod Failing
-pub mod Functions
-pub mod Defining
-pub mod Leading
-pub mod Lefts
-pub mod Locals
-pub mod Lookups
-pub mod Meaning
+mod Blocks
+mod Clauses
+mod Declaring
+mod Failing
+mod Functions
+mod Defining
+mod Leading
+mod Lefts
+mod Locals
+mod Lookups
+mod Meaning
 pub mod Repeats
-pub mod Sequences
-pub mod Shown
-pub mod Tests
-pub mod Naming
-pub mod Several
-pub mod Unknown
+mod Sequences
+mod Shown
+mod Tests
+mod Naming
+mod Several
+mod Unknown

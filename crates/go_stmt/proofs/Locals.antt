@@ -14,12 +14,12 @@ use Rattle.go_expr.specs.declared.error.ExprError.{ExprError}
 use Rattle.go_expr.specs.Known.{Scope, Verdict, Fine, Breaks}
 use Rattle.go_expr.specs.Rules.{fine, checked, constant_in, assigned}
 use Rattle.go_expr.specs.Verdicts.{asked, both, broken, operand, verdict}
-use Rattle.go_expr.specs.Seen.{Fails}
+use Rattle.go_expr.specs.Views.{Fails}
 use Rattle.go_expr.proofs.Lists.{fails_front}
-use Rattle.go_stmt.specs.Scopes.{Env, Context, Checked, Faults, nothing, scope_in, number_of, paired, declare_new, still, follow, appended}
-use Rattle.go_stmt.specs.Rules.{Values, all_some, variables_source, constants_of}
+use Rattle.go_stmt.specs.Scopes.{StatementEnv, Context, Checked, StatementFaults, nothing, scope_in, variable_number, paired_names, declare_new, still, follow, concat_checked}
+use Rattle.go_stmt.specs.Rules.{AssignedValues, all_some, variables_source, constants_verdict}
 use Rattle.go_scope.specs.Specifications.{meant, is_repeated}
-use Rattle.go_stmt.specs.Statements.{names_faults, names_at, written_at, values_at, place_at, variable_types, variables_at, each_of, operands_faults, spec_at, constants_at, declared_as, group_at}
+use Rattle.go_stmt.specs.Statements.{names_faults, names_at, written_at, values_at, place_of_first, variable_types, variables_at, each_of, operands_faults, spec_at, constants_at, declared_as, group_at}
 use Rattle.go_stmt.proofs.Defining.{made, made_fails}
 
 -- a rule that doesn't look at what is known of the first part
@@ -33,72 +33,72 @@ mapped_twice f g (Some x) = refl
 
 -- ---- variables
 
-abbrev pub source_by : List Name → Option (Option Type' × Values) → Verdict typed.Source
+abbrev pub source_by : List Name → Option (Option Type' × AssignedValues) → Verdict typed.ValueSource
 source_by ns o = asked (λ k. variables_source ns k.0 k.1) o
 
-abbrev variables_rule : List Name → List Name × (Option Type' × Values) → Verdict typed.Source
+abbrev variables_rule : List Name → List Name × (Option Type' × AssignedValues) → Verdict typed.ValueSource
 variables_rule ns k = variables_source ns (k.1).0 (k.1).1
 
-abbrev pub numbers_behind : Context → VarSpec → Env → List (Option ℕ)
-numbers_behind c spec env = map (number_of (declare_new (paired spec.names (variable_types (scope_in c None env) spec)) env)) spec.names
+abbrev pub numbers_behind : Context → VarSpec → StatementEnv → List (Option ℕ)
+numbers_behind c spec env = map (variable_number (declare_new (paired_names spec.names (variable_types (scope_in c None env) spec)) env)) spec.names
 
-abbrev as_list : List (Option ℕ) → typed.Source → List typed.Stmt
+abbrev as_list : List (Option ℕ) → typed.ValueSource → List typed.Stmt
 as_list numbers source = typed.define numbers source ∷ []
 
-written_kept : (s : Scope) (t : Option TypeExpr) (env : Env) → (written_at s t env).after ≡ env
+written_kept : (s : Scope) (t : Option TypeExpr) (env : StatementEnv) → (written_at s t env).after ≡ env
 written_kept s None env = refl
 written_kept s (Some t) env = refl
 
-variables_known : (c : Context) (spec : VarSpec) (env : Env) (written : Option (Option Type')) (values : Option Values) → written ≡ (written_at (scope_in c None env) spec.type env).known →
+variables_known : (c : Context) (spec : VarSpec) (env : StatementEnv) (written : Option (Option Type')) (values : Option AssignedValues) → written ≡ (written_at (scope_in c None env) spec.type env).known →
     values ≡ (values_at c spec.values env).known → (follow (written_at (scope_in c None env) spec.type) (values_at c spec.values) env).known ≡ both written values
 variables_known c spec env written values w v =
     ap (λ o. both o (values_at c spec.values (written_at (scope_in c None env) spec.type env).after).known) (sym w)
     ∙ ap (both written) (ap (λ there. (values_at c spec.values there).known) (written_kept (scope_in c None env) spec.type env) ∙ sym v)
 
 -- the parts have no fault
-pub variables_made : (c : Context) (p : Place) (spec : VarSpec) (env : Env) (written : Option (Option Type')) (values : Option Values) (source : Option typed.Source) →
+pub variables_made : (c : Context) (p : Place) (spec : VarSpec) (env : StatementEnv) (written : Option (Option Type')) (values : Option AssignedValues) (source : Option typed.ValueSource) →
     names_faults env [] spec.names ≡ [] → (follow (written_at (scope_in c None env) spec.type) (values_at c spec.values) env).faults ≡ [] →
     written ≡ (written_at (scope_in c None env) spec.type env).known → values ≡ (values_at c spec.values env).known →
-    broken (place_at p spec.names) (source_by spec.names (both written values)) ≡ [] → fine (source_by spec.names (both written values)) ≡ source →
+    broken (place_of_first p spec.names) (source_by spec.names (both written values)) ≡ [] → fine (source_by spec.names (both written values)) ≡ source →
     ((variables_at c p spec env).faults ≡ []) × ((variables_at c p spec env).known ≡ option_map (as_list (numbers_behind c spec env)) source)
 variables_made c p spec env written values source none parts w v unbroken gives =
     let s = scope_in c None env in
     let rest = follow (written_at s spec.type) (values_at c spec.values) in
-    let same = behind spec.names (λ (k : Option Type' × Values). variables_source spec.names k.0 k.1) (both written values) in
-    made (place_at p spec.names) (as_list (numbers_behind c spec env)) (variables_rule spec.names) (follow (names_at spec.names) rest) env (both (Some spec.names) (both written values)) source
+    let same = behind spec.names (λ (k : Option Type' × AssignedValues). variables_source spec.names k.0 k.1) (both written values) in
+    made (place_of_first p spec.names) (as_list (numbers_behind c spec env)) (variables_rule spec.names) (follow (names_at spec.names) rest) env (both (Some spec.names) (both written values)) source
     (ap (λ l. l ++ (rest env).faults) none ∙ parts)
     (ap (both (Some spec.names)) (variables_known c spec env written values w v))
-    (ap (broken (place_at p spec.names)) same ∙ unbroken) (ap fine same ∙ gives)
+    (ap (broken (place_of_first p spec.names)) same ∙ unbroken) (ap fine same ∙ gives)
 
 -- their rule is broken
-pub variables_fail : (e : ExprError) (c : Context) (p : Place) (spec : VarSpec) (env : Env) (written : Option (Option Type')) (values : Option Values) →
+pub variables_fail : (e : ExprError) (c : Context) (p : Place) (spec : VarSpec) (env : StatementEnv) (written : Option (Option Type')) (values : Option AssignedValues) →
     names_faults env [] spec.names ≡ [] → (follow (written_at (scope_in c None env) spec.type) (values_at c spec.values) env).faults ≡ [] →
     written ≡ (written_at (scope_in c None env) spec.type env).known → values ≡ (values_at c spec.values env).known →
-    Fails e (broken (place_at p spec.names) (source_by spec.names (both written values))) → Fails e (variables_at c p spec env).faults
+    Fails e (broken (place_of_first p spec.names) (source_by spec.names (both written values))) → Fails e (variables_at c p spec env).faults
 variables_fail e c p spec env written values none parts w v h =
     let s = scope_in c None env in
     let rest = follow (written_at s spec.type) (values_at c spec.values) in
-    let same = behind spec.names (λ (k : Option Type' × Values). variables_source spec.names k.0 k.1) (both written values) in
-    made_fails e (place_at p spec.names) (as_list (numbers_behind c spec env)) (variables_rule spec.names) (follow (names_at spec.names) rest) env (both (Some spec.names) (both written values))
+    let same = behind spec.names (λ (k : Option Type' × AssignedValues). variables_source spec.names k.0 k.1) (both written values) in
+    made_fails e (place_of_first p spec.names) (as_list (numbers_behind c spec env)) (variables_rule spec.names) (follow (names_at spec.names) rest) env (both (Some spec.names) (both written values))
     (ap (λ l. l ++ (rest env).faults) none ∙ parts)
     (ap (both (Some spec.names)) (variables_known c spec env written values w v))
-    (subst (λ (l : Faults). Fails e l) (sym (ap (broken (place_at p spec.names)) same)) h)
+    (subst (λ (l : StatementFaults). Fails e l) (sym (ap (broken (place_of_first p spec.names)) same)) h)
 
 -- ---- constants
 
-written_anywhere : (s : Scope) (t : Option TypeExpr) (env there : Env) → (written_at s t env).faults ≡ (written_at s t there).faults
+written_anywhere : (s : Scope) (t : Option TypeExpr) (env there : StatementEnv) → (written_at s t env).faults ≡ (written_at s t there).faults
 written_anywhere s None env there = refl
 written_anywhere s (Some t) env there = refl
 
-known_anywhere : (s : Scope) (t : Option TypeExpr) (env there : Env) → (written_at s t env).known ≡ (written_at s t there).known
+known_anywhere : (s : Scope) (t : Option TypeExpr) (env there : StatementEnv) → (written_at s t env).known ≡ (written_at s t there).known
 known_anywhere s None env there = refl
 known_anywhere s (Some t) env there = refl
 
 abbrev pub constants_by : List Name → Option (Option Type' × List typed.Expr) → Verdict typed.Stmt
-constants_by ns o = asked (λ k. constants_of ns k.0 k.1) o
+constants_by ns o = asked (λ k. constants_verdict ns k.0 k.1) o
 
 abbrev constants_rule : List Name → List Name × (Option Type' × List typed.Expr) → Verdict typed.Stmt
-constants_rule ns k = constants_of ns (k.1).0 (k.1).1
+constants_rule ns k = constants_verdict ns (k.1).0 (k.1).1
 
 abbrev alone : typed.Stmt → List typed.Stmt
 alone s = s ∷ []
@@ -106,60 +106,60 @@ alone s = s ∷ []
 abbrev values_of : Scope → ConstSpec → Option (List typed.Expr)
 values_of s spec = all_some (each_of (λ e. operand (verdict s e)) spec.values)
 
-abbrev parts_at : Scope → ConstSpec → Env → Checked (Option Type' × List typed.Expr)
+abbrev parts_at : Scope → ConstSpec → StatementEnv → Checked (Option Type' × List typed.Expr)
 parts_at s spec = follow (written_at s spec.type) (still (operands_faults s spec.values) (values_of s spec))
 
 -- the faults of the type and the values, whatever is in scope
-pub parts_anywhere : (s : Scope) (p : Place) (repeated : Bool) (spec : ConstSpec) (env there : Env) → (spec_at s p repeated spec env).faults ≡ (spec_at s p repeated spec there).faults
+pub parts_anywhere : (s : Scope) (p : Place) (repeated : Bool) (spec : ConstSpec) (env there : StatementEnv) → (spec_at s p repeated spec env).faults ≡ (spec_at s p repeated spec there).faults
 parts_anywhere s p true spec env there = refl
 parts_anywhere s p false spec env there = ap (λ l. l ++ operands_faults s spec.values) (written_anywhere s spec.type env there)
 
-parts_known : (s : Scope) (spec : ConstSpec) (env : Env) (written : Option (Option Type')) (values : Option (List typed.Expr)) → written ≡ (written_at s spec.type nothing).known →
+parts_known : (s : Scope) (spec : ConstSpec) (env : StatementEnv) (written : Option (Option Type')) (values : Option (List typed.Expr)) → written ≡ (written_at s spec.type nothing).known →
     values ≡ values_of s spec → (parts_at s spec env).known ≡ both written values
 parts_known s spec env written values w v =
     ap (λ o. both o (values_of s spec)) (known_anywhere s spec.type env nothing ∙ sym w) ∙ ap (both written) (sym v)
 
 -- the parts have no fault
-pub constants_made : (c : Context) (p : Place) (iota : ℕ) (repeated : Bool) (spec : ConstSpec) (env : Env) (written : Option (Option Type')) (values : Option (List typed.Expr)) (statement : Option typed.Stmt) →
-    names_faults env [] spec.names ≡ [] → (spec_at (scope_in c (Some iota) env) (place_at p spec.names) repeated spec nothing).faults ≡ [] →
+pub constants_made : (c : Context) (p : Place) (iota : ℕ) (repeated : Bool) (spec : ConstSpec) (env : StatementEnv) (written : Option (Option Type')) (values : Option (List typed.Expr)) (statement : Option typed.Stmt) →
+    names_faults env [] spec.names ≡ [] → (spec_at (scope_in c (Some iota) env) (place_of_first p spec.names) repeated spec nothing).faults ≡ [] →
     written ≡ (written_at (scope_in c (Some iota) env) spec.type nothing).known → values ≡ values_of (scope_in c (Some iota) env) spec →
-    broken (place_at p spec.names) (constants_by spec.names (both written values)) ≡ [] → fine (constants_by spec.names (both written values)) ≡ statement →
+    broken (place_of_first p spec.names) (constants_by spec.names (both written values)) ≡ [] → fine (constants_by spec.names (both written values)) ≡ statement →
     ((constants_at c p iota repeated spec env).faults ≡ []) × ((constants_at c p iota repeated spec env).known ≡ option_map alone statement)
 constants_made c p iota repeated spec env written values statement none parts w v unbroken gives =
     let s = scope_in c (Some iota) env in
-    let first = place_at p spec.names in
+    let first = place_of_first p spec.names in
     let rest = spec_at s first repeated spec in
-    let same = behind spec.names (λ (k : Option Type' × List typed.Expr). constants_of spec.names k.0 k.1) (both written values) in
+    let same = behind spec.names (λ (k : Option Type' × List typed.Expr). constants_verdict spec.names k.0 k.1) (both written values) in
     made first alone (constants_rule spec.names) (follow (names_at spec.names) rest) env (both (Some spec.names) (both written values)) statement
     (ap (λ l. l ++ (rest env).faults) none ∙ parts_anywhere s first repeated spec env nothing ∙ parts)
     (ap (both (Some spec.names)) (parts_known s spec env written values w v)) (ap (broken first) same ∙ unbroken) (ap fine same ∙ gives)
 
 -- their rule is broken
-pub constants_fail : (e : ExprError) (c : Context) (p : Place) (iota : ℕ) (repeated : Bool) (spec : ConstSpec) (env : Env) (written : Option (Option Type')) (values : Option (List typed.Expr)) →
-    names_faults env [] spec.names ≡ [] → (spec_at (scope_in c (Some iota) env) (place_at p spec.names) repeated spec nothing).faults ≡ [] →
+pub constants_fail : (e : ExprError) (c : Context) (p : Place) (iota : ℕ) (repeated : Bool) (spec : ConstSpec) (env : StatementEnv) (written : Option (Option Type')) (values : Option (List typed.Expr)) →
+    names_faults env [] spec.names ≡ [] → (spec_at (scope_in c (Some iota) env) (place_of_first p spec.names) repeated spec nothing).faults ≡ [] →
     written ≡ (written_at (scope_in c (Some iota) env) spec.type nothing).known → values ≡ values_of (scope_in c (Some iota) env) spec →
-    Fails e (broken (place_at p spec.names) (constants_by spec.names (both written values))) → Fails e (constants_at c p iota repeated spec env).faults
+    Fails e (broken (place_of_first p spec.names) (constants_by spec.names (both written values))) → Fails e (constants_at c p iota repeated spec env).faults
 constants_fail e c p iota repeated spec env written values none parts w v h =
     let s = scope_in c (Some iota) env in
-    let first = place_at p spec.names in
+    let first = place_of_first p spec.names in
     let rest = spec_at s first repeated spec in
-    let same = behind spec.names (λ (k : Option Type' × List typed.Expr). constants_of spec.names k.0 k.1) (both written values) in
+    let same = behind spec.names (λ (k : Option Type' × List typed.Expr). constants_verdict spec.names k.0 k.1) (both written values) in
     made_fails e first alone (constants_rule spec.names) (follow (names_at spec.names) rest) env (both (Some spec.names) (both written values))
     (ap (λ l. l ++ (rest env).faults) none ∙ parts_anywhere s first repeated spec env nothing ∙ parts)
-    (ap (both (Some spec.names)) (parts_known s spec env written values w v)) (subst (λ (l : Faults). Fails e l) (sym (ap (broken first) same)) h)
+    (ap (both (Some spec.names)) (parts_known s spec env written values w v)) (subst (λ (l : StatementFaults). Fails e l) (sym (ap (broken first) same)) h)
 
 -- a part has a fault
-pub constants_part_fails : (e : ExprError) (c : Context) (p : Place) (iota : ℕ) (repeated : Bool) (spec : ConstSpec) (env : Env) → names_faults env [] spec.names ≡ [] →
-    Fails e (spec_at (scope_in c (Some iota) env) (place_at p spec.names) repeated spec nothing).faults → Fails e (constants_at c p iota repeated spec env).faults
+pub constants_part_fails : (e : ExprError) (c : Context) (p : Place) (iota : ℕ) (repeated : Bool) (spec : ConstSpec) (env : StatementEnv) → names_faults env [] spec.names ≡ [] →
+    Fails e (spec_at (scope_in c (Some iota) env) (place_of_first p spec.names) repeated spec nothing).faults → Fails e (constants_at c p iota repeated spec env).faults
 constants_part_fails e c p iota repeated spec env none h =
     let s = scope_in c (Some iota) env in
-    let first = place_at p spec.names in
+    let first = place_of_first p spec.names in
     let rest = spec_at s first repeated spec in
     let form = follow (names_at spec.names) rest in
     let whole : List Name × (Option Type' × List typed.Expr) → Verdict (List typed.Stmt) = λ k. checked (λ s. Fine (s ∷ [])) (constants_rule spec.names k) in
     let own = broken first (asked whole (form env).known) in
     let faults : (form env).faults ≡ (rest nothing).faults = ap (λ l. l ++ (rest env).faults) none ∙ parts_anywhere s first repeated spec env nothing in
-    subst (λ (l : Faults). Fails e l) (sym (ap (λ l. l ++ own) faults)) (fails_front e (rest nothing).faults own h)
+    subst (λ (l : StatementFaults). Fails e l) (sym (ap (λ l. l ++ own) faults)) (fails_front e (rest nothing).faults own h)
 
 -- what isn't constant declares nothing that is known
 unknown_either : (a b : Bool) (t : Type') (e : typed.Expr) → declared_as (Some e) ≡ None →
@@ -188,13 +188,13 @@ unknown_assigned t (typed.literal u parts) h = sym (unknown_either (assignable u
 unknown_assigned t (typed.call u f es) h = sym (unknown_either (assignable u t) (identical u t) t (typed.call u f es) refl)
 
 -- the next specification of a group, and those behind it
-pub group_begins : (c : Context) (p : Place) (i : ℕ) (before now s : ConstSpec) (repeated : Bool) (all ss : List ConstSpec) (env : Env) → all ≡ s ∷ ss → repeated ≡ is_repeated s →
-    now ≡ meant before s → group_at c p i before all env ≡ appended (constants_at c p i repeated now) (group_at c p (i + 1) now ss) env
+pub group_begins : (c : Context) (p : Place) (i : ℕ) (before now s : ConstSpec) (repeated : Bool) (all ss : List ConstSpec) (env : StatementEnv) → all ≡ s ∷ ss → repeated ≡ is_repeated s →
+    now ≡ meant before s → group_at c p i before all env ≡ concat_checked (constants_at c p i repeated now) (group_at c p (i + 1) now ss) env
 group_begins c p i before now s repeated all ss env next same means =
     ap (λ l. group_at c p i before l env) next
-    ∙ ap (λ b. appended (constants_at c p i b (meant before s)) (group_at c p (suc i) (meant before s) ss) env) (sym same)
-    ∙ ap (λ m. appended (constants_at c p i repeated m) (group_at c p (suc i) m ss) env) (sym means)
-    ∙ ap (λ k. appended (constants_at c p i repeated now) (group_at c p k now ss) env) (sym (add-one i))
+    ∙ ap (λ b. concat_checked (constants_at c p i b (meant before s)) (group_at c p (suc i) (meant before s) ss) env) (sym same)
+    ∙ ap (λ m. concat_checked (constants_at c p i repeated m) (group_at c p (suc i) m ss) env) (sym means)
+    ∙ ap (λ k. concat_checked (constants_at c p i repeated now) (group_at c p k now ss) env) (sym (add-one i))
 
 -- ---- places
 

@@ -12,9 +12,9 @@ use Rattle.go_ast.specs.Trees.{Name}
 use Rattle.go_scope.specs.Index as index
 use Rattle.go_scope.proofs.Indexes.{Differing, differing_more, differing_not, is_some_position}
 use Rattle.go_scope.specs.Scopes.{is_blank}
-use Rattle.go_stmt.specs.Scopes.{Env, own}
+use Rattle.go_stmt.specs.Scopes.{StatementEnv, own}
 use Rattle.go_stmt.specs.Rules.{differ}
-use Rattle.go_stmt.specs.Seen.{own_texts}
+use Rattle.go_stmt.specs.Views.{own_texts}
 use Rattle.go_stmt.specs.Statements.{names_faults}
 use Rattle.go_stmt.proofs.Sequences.{left}
 
@@ -40,7 +40,7 @@ any_own x f (n ∷ ns) = elim (cases_Bool (is_blank n.text)) [
   | inr g ↦ elim (cases_Bool (bytes_eq x n.text)) [ inl t ↦ rw (g, t) refl | inr h ↦ rw (g, h) (any_own x f ns) ]
 ]
 
-pub differ_by_texts : (ns : List Name) → index.differ (own_texts ns) ≡ differ ns
+pub differ_by_texts : (ns : List Name) → index.are_distinct (own_texts ns) ≡ differ ns
 differ_by_texts [] = refl
 differ_by_texts (n ∷ ns) = elim (cases_Bool (is_blank n.text)) [
   | inl t ↦ rw t (differ_by_texts ns)
@@ -61,7 +61,7 @@ texts_more names left rest all n before is new = elim (cases_Bool (is_blank n.te
   ]
 ]
 
-pub texts_not : (names left rest all : List (List ℕ)) (n : Name) → Differing names left all → left ≡ own_texts (n ∷ []) ++ rest → is_in names n ≡ true → false ≡ index.differ all
+pub texts_not : (names left rest all : List (List ℕ)) (n : Name) → Differing names left all → left ≡ own_texts (n ∷ []) ++ rest → is_in names n ≡ true → false ≡ index.are_distinct all
 texts_not names left rest all n before is known = elim (cases_Bool (is_blank n.text)) [
   | inl t ↦ (let no : false ≡ true = rw t at known in cc (no))
   | inr f ↦ elim (cases_Bool (is_some (position (bytes_eq n.text) names))) [
@@ -72,11 +72,11 @@ texts_not names left rest all n before is known = elim (cases_Bool (is_blank n.t
 
 -- ---- names of a declaration
 
-abbrev pub is_doubled : Env → List Name → Name → Bool
+abbrev pub is_doubled : StatementEnv → List Name → Name → Bool
 is_doubled env before n = is_some (own env n) || not (is_blank n.text) && list_any (λ m. bytes_eq n.text m.text) before
 
 -- one is doubled where it is among the texts of those before it
-pub doubled_in : (env : Env) (before : List Name) (n : Name) → (is_some (own env n) || is_in (own_texts before) n) ≡ is_doubled env before n
+pub doubled_in : (env : StatementEnv) (before : List Name) (n : Name) → (is_some (own env n) || is_in (own_texts before) n) ≡ is_doubled env before n
 doubled_in env before n = ap (λ b. is_some (own env n) || b) (elim (cases_Bool (is_blank n.text)) [
   | inl t ↦ rw t refl
   | inr f ↦ (
@@ -92,12 +92,12 @@ pub texts_taken : (names : List Name) (i : ℕ) (n : Name) → i < length names 
 texts_taken names i n within is = sym (ap own_texts (next_taken names i n within is) ∙ texts_append (take i names) (n ∷ []))
 
 -- the next is neither there already nor doubled
-pub next_fine : (env : Env) (names : List Name) (i : ℕ) (n : Name) → i < length names → n ≡ get_or names i n → is_doubled env (take i names) n ≡ false →
+pub next_fine : (env : StatementEnv) (names : List Name) (i : ℕ) (n : Name) → i < length names → n ≡ get_or names i n → is_doubled env (take i names) n ≡ false →
     names_faults env (take (i + 1) names) (drop (i + 1) names) ≡ names_faults env (take i names) (drop i names)
 next_fine env names i n within is fine =
     ap (λ b. names_faults env b (drop (i + 1) names)) (next_taken names i n within is)
     ∙ sym (ap (names_faults env (take i names)) (left names i n within is) ∙ rw fine refl)
 
-pub next_faulty : (env : Env) (names : List Name) (i : ℕ) (n : Name) → i < length names → n ≡ get_or names i n → is_doubled env (take i names) n ≡ true →
+pub next_faulty : (env : StatementEnv) (names : List Name) (i : ℕ) (n : Name) → i < length names → n ≡ get_or names i n → is_doubled env (take i names) n ≡ true →
     names_faults env (take i names) (drop i names) ≡ (n.place, Redeclared) ∷ names_faults env (take i names ++ n ∷ []) (drop (i + 1) names)
 next_faulty env names i n within is doubled = ap (names_faults env (take i names)) (left names i n within is) ∙ rw doubled refl

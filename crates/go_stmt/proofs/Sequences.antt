@@ -4,18 +4,18 @@ use Rattle.std.proofs.Math.Seq.{drop-cons}
 use Rattle.std.specs.List.{zip}
 use Rattle.std.specs.Option.{option_map}
 use Rattle.go_expr.specs.Verdicts.{both}
-use Rattle.go_stmt.specs.Scopes.{Env, Checked, follow, appended}
+use Rattle.go_stmt.specs.Scopes.{StatementEnv, Checked, follow, concat_checked}
 
 -- the faults, the environment and what is known behind a first form that has no fault
-pub later_faults : {A B : Type 0} (first : Env → Checked A) (second : Env → Checked B) (env there : Env) → (first env).faults ≡ [] → there ≡ (first env).after →
+pub later_faults : {A B : Type 0} (first : StatementEnv → Checked A) (second : StatementEnv → Checked B) (env there : StatementEnv) → (first env).faults ≡ [] → there ≡ (first env).after →
     (follow first second env).faults ≡ (second there).faults
 later_faults first second env there none is = ap (λ l. l ++ (second (first env).after).faults) none ∙ ap (λ e. (second e).faults) (sym is)
 
-pub later_after : {A B : Type 0} (first : Env → Checked A) (second : Env → Checked B) (env there : Env) → there ≡ (first env).after →
+pub later_after : {A B : Type 0} (first : StatementEnv → Checked A) (second : StatementEnv → Checked B) (env there : StatementEnv) → there ≡ (first env).after →
     (follow first second env).after ≡ (second there).after
 later_after first second env there is = ap (λ e. (second e).after) (sym is)
 
-pub later_known : {A B : Type 0} (first : Env → Checked A) (second : Env → Checked B) (env there : Env) (a : Option A) → (first env).known ≡ a → there ≡ (first env).after →
+pub later_known : {A B : Type 0} (first : StatementEnv → Checked A) (second : StatementEnv → Checked B) (env there : StatementEnv) (a : Option A) → (first env).known ≡ a → there ≡ (first env).after →
     (follow first second env).known ≡ both a (second there).known
 later_known first second env there a known is = ap (λ o. both o (second (first env).after).known) known ∙ ap (λ e. both a (second e).known) (sym is)
 
@@ -41,7 +41,7 @@ joined_last None = refl
 joined_last (Some a) = ap Some (append-nil a)
 
 -- what is known of all, by what was known before, of the next form and of the rest
-pub appended_known : {A : Type 0} (first second : Env → Checked (List A)) (env there : Env) (all done more next : Option (List A)) → all ≡ joined done (appended first second env).known →
+pub appended_known : {A : Type 0} (first second : StatementEnv → Checked (List A)) (env there : StatementEnv) (all done more next : Option (List A)) → all ≡ joined done (concat_checked first second env).known →
     (first env).known ≡ next → there ≡ (first env).after → more ≡ joined done next → all ≡ joined more (second there).known
 appended_known first second env there all done more next same known is grown =
     same ∙ ap (λ o. joined done (option_map (λ k. k.0 ++ k.1) o)) (later_known first second env there next known is)

@@ -28,6 +28,6 @@ types_of_several s (e ∷ []) h = absurd (let n : ⊥ = omega arith in n)
 types_of_several s (e ∷ f ∷ es) h = refl
 
 -- what is known of each, seen as something else
-pub each_mapped : {A B : Type 0} (f : A → B) (g : trees.Expr → A) (es : trees.Exprs) → map f (each_of g es) ≡ each_of (λ e. f (g e)) es
+pub each_mapped : {A B : Type 0} (f : A → B) (g : trees.Expression → A) (es : trees.ExpressionList) → map f (each_of g es) ≡ each_of (λ e. f (g e)) es
 each_mapped f g trees.no_exprs = refl
 each_mapped f g (trees.some_exprs e es) = ap (λ l. f (g e) ∷ l) (each_mapped f g es)

@@ -1,7 +1,7 @@
 -- Tests of two parts, of which the second is asked where the first doesn't decide.
 use Rattle.std.proofs.Common.{◌≡◌, Bool, true, false, ◌&&◌, ◌||◌, List, [], ◌∷◌, length, get_or, suc, ◌-◌, ◌≤◌, arith, ap, sym, ◌∙◌}
 use Rattle.go_typed.specs.declared.statement.TypedStmt.{TypedStmt}
-use Rattle.go_typed.specs.Views.{stmt_of, stmts_in}
+use Rattle.go_typed.specs.Views.{as_stmt, stmts_in}
 use Rattle.go_typed.specs.Terminating.{terminates, list_terminates}
 
 pub or_first : (a b r x : Bool) → x ≡ (a || b) → r ≡ a → r ≡ true → r ≡ x
@@ -20,9 +20,9 @@ pub and_first : (a b r x : Bool) → x ≡ (a && b) → r ≡ a → r ≡ false 
 and_first true b r x e f g = cc
 and_first false b r x e f g = f ∙ sym e
 
-pub last_terminates : (ss : List TypedStmt) (s : TypedStmt) → 1 ≤ length ss → s ≡ get_or ss (length ss - 1) s → terminates (stmt_of s) ≡ list_terminates (stmts_in ss)
+pub last_terminates : (ss : List TypedStmt) (s : TypedStmt) → 1 ≤ length ss → s ≡ get_or ss (length ss - 1) s → terminates (as_stmt s) ≡ list_terminates (stmts_in ss)
 last_terminates [] s h e = absurd (let n : ⊥ = omega arith in n)
-last_terminates (t ∷ []) s h e = ap (λ x. terminates (stmt_of x)) e
+last_terminates (t ∷ []) s h e = ap (λ x. terminates (as_stmt x)) e
 last_terminates (t ∷ u ∷ ss) s h e =
     let k : length (t ∷ u ∷ ss) - 1 ≡ suc (length (u ∷ ss) - 1) = omega arith in
     last_terminates (u ∷ ss) s (let l : 1 ≤ length (u ∷ ss) = omega arith in l) (e ∙ ap (λ n. get_or (t ∷ u ∷ ss) n s) k)

@@ -6,7 +6,7 @@ use Rattle.go_expr.specs.declared.known.Known as knowns
 use Rattle.go_expr.specs.Known.{Known, Verdict, Fine, Breaks, Passed}
 use Rattle.go_expr.specs.Rules.{fine}
 use Rattle.go_expr.specs.Verdicts.{broken}
-use Rattle.go_expr.specs.Seen.{known_of}
+use Rattle.go_expr.specs.Views.{known_of}
 
 -- a name that breaks no rule finds what is known, or it is passed over
 pub found_unknown : (p : Place) (v : Verdict Known) (found : Option knowns.Known) (b : Bool) → broken p v ≡ [] → fine v ≡ option_map known_of found → is_some found ≡ not b →

@@ -1,5 +1,5 @@
 pub mod Functions
 pub mod Rules
 pub mod Scopes
-pub mod Seen
 pub mod Statements
+pub mod Views

@@ -4,15 +4,15 @@ ghost use Rattle.std.specs.Option.{option_map};
 ghost use Rattle.go_text.specs.declared.fault.FaultKind.TheVariants.{Mismatch};
 ghost use Rattle.go_ast.specs.Trees.{assignment, operator_assignment};
 ghost use Rattle.go_ast.specs.Views.{expr_of as expr_tree, exprs_in as exprs_trees};
-ghost use Rattle.go_types.specs.Views.{type_of};
+ghost use Rattle.go_types.specs.Views.{go_type};
 ghost use Rattle.go_typed.specs.Trees.{expr_type};
-ghost use Rattle.go_typed.specs.Views.{expr_of, stmt_of};
-ghost use Rattle.go_expr.specs.Rules.{lesser};
+ghost use Rattle.go_typed.specs.Views.{as_expr, as_stmt};
+ghost use Rattle.go_expr.specs.Rules.{lesser_fault};
 ghost use Rattle.go_expr.specs.Verdicts.{asked, both};
-ghost use Rattle.go_expr.specs.Seen.{all_of, Gives, AnswersAt};
-ghost use Rattle.go_stmt.specs.Rules.{assigned_to, updated};
+ghost use Rattle.go_expr.specs.Views.{all_of, Gives, AnswersAt};
+ghost use Rattle.go_stmt.specs.Rules.{assigned_to, update_verdict};
 ghost use Rattle.go_stmt.specs.Statements.{blank_left, left_at, lefts_at, simple_at};
-ghost use Rattle.go_stmt.specs.Seen.{context_of, env_of, values_seen, Answered};
+ghost use Rattle.go_stmt.specs.Views.{context_of, env_of, values_seen, Answered};
 
 use crate::context::Context;
 use crate::control::check_value;
@@ -50,7 +50,7 @@ fn check_left(
     env: &Env,
     e: &Expr,
 ) -> Result<Option<Option<TypedExpr>>, ExprError>
-    ensures { Answered (λ o. option_map expr_of o ∷ []) result (left_at (context_of context.entry) (expr_tree e.now) (env_of env.now)) }
+    ensures { Answered (λ o. option_map as_expr o ∷ []) result (left_at (context_of context.entry) (expr_tree e.now) (env_of env.now)) }
 {
     if is_blank(e) {
         return Ok(Some(None));
@@ -66,8 +66,8 @@ fn with_left(
     all: Option<Vec<Option<TypedExpr>>>,
     left: Option<Option<TypedExpr>>,
 ) -> Result<Option<Vec<Option<TypedExpr>>>, AllocError>
-    ensures { IfOk result (λ more. option_map (all_of (option_map expr_of)) more
-        ≡ option_map (λ k. k.0 ++ k.1) (both (option_map (all_of (option_map expr_of)) all) (option_map (λ o. option_map expr_of o ∷ []) left))) }
+    ensures { IfOk result (λ more. option_map (all_of (option_map as_expr)) more
+        ≡ option_map (λ k. k.0 ++ k.1) (both (option_map (all_of (option_map as_expr)) all) (option_map (λ o. option_map as_expr o ∷ []) left))) }
 {
     let Some(mut all) = all else {
         return Ok(None);
@@ -86,7 +86,7 @@ fn check_lefts(
     env: &Env,
     es: &[Expr],
 ) -> Result<Option<Vec<Option<TypedExpr>>>, ExprError>
-    ensures { Answered (all_of (option_map expr_of)) result (lefts_at (context_of context.entry) (exprs_trees es.now) (env_of env.now)) }
+    ensures { Answered (all_of (option_map as_expr)) result (lefts_at (context_of context.entry) (exprs_trees es.now) (env_of env.now)) }
 {
     let mut all = Some(Vec::with_capacity(alloc, es.len())?);
     for e in es {
@@ -98,7 +98,7 @@ fn check_lefts(
 
 /// The types that are due for left sides; none is for a blank one.
 fn due_by(alloc: Global, operands: &[Option<TypedExpr>]) -> Result<Vec<Option<GoType>>, AllocError>
-    ensures { IfOk result (λ due. map (option_map type_of) due.items ≡ map (option_map expr_type) (map (option_map expr_of) operands.now)) }
+    ensures { IfOk result (λ due. map (option_map go_type) due.items ≡ map (option_map expr_type) (map (option_map as_expr) operands.now)) }
 {
     let mut all = Vec::with_capacity(alloc, operands.len())?;
     for operand in operands {
@@ -113,13 +113,13 @@ fn due_by(alloc: Global, operands: &[Option<TypedExpr>]) -> Result<Vec<Option<Go
 
 /// An assignment to left sides by their operands. `Mismatch` where one is no left side; `Count` where
 /// the values aren't as many; else `Range` or `Assign` where one isn't assignable.
-#[tactic(auto, unfolding(go_typed::specs::Views::stmt_of))]
+#[tactic(auto, unfolding(go_typed::specs::Views::as_stmt))]
 fn assigned_to(
     alloc: Global,
     operands: Vec<Option<TypedExpr>>,
     values: Values,
 ) -> Result<TypedStmt, RuleError>
-    ensures { Gives stmt_of result (assigned_to (map (option_map expr_of) operands.items) (values_seen values)) }
+    ensures { Gives as_stmt result (assigned_to (map (option_map as_expr) operands.items) (values_seen values)) }
 {
     let due = due_by(alloc, &operands)?;
     let Some(lefts) = left_sides(alloc, operands)? else {
@@ -136,8 +136,8 @@ fn assigned_at(
     operands: Option<Vec<Option<TypedExpr>>>,
     values: Option<Values>,
 ) -> Result<Option<TypedStmt>, ExprError>
-    ensures { AnswersAt stmt_of result place
-        (asked (λ k. assigned_to k.0 k.1) (both (option_map (all_of (option_map expr_of)) operands) (option_map values_seen values))) }
+    ensures { AnswersAt as_stmt result place
+        (asked (λ k. assigned_to k.0 k.1) (both (option_map (all_of (option_map as_expr)) operands) (option_map values_seen values))) }
 {
     let Some(operands) = operands else {
         return Ok(None);
@@ -158,7 +158,7 @@ pub(crate) fn check_assignment(
     left: &[Expr],
     right: &[Expr],
 ) -> Result<Option<TypedStmt>, ExprError>
-    ensures { Answered stmt_of result
+    ensures { Answered as_stmt result
         (simple_at (context_of context.entry) place (assignment (exprs_trees left.now) (exprs_trees right.now)) (env_of env.now)) }
 {
     let operands = check_lefts(alloc, context, env, left)?;
@@ -168,7 +168,7 @@ pub(crate) fn check_assignment(
 
 /// The fault that is told of `Mismatch` and another.
 fn with_mismatch(kind: FaultKind) -> FaultKind
-    ensures { Some result ≡ lesser (Some Mismatch) (Some kind) }
+    ensures { Some result ≡ lesser_fault (Some Mismatch) (Some kind) }
 {
     if FaultKind::Mismatch.number() <= kind.number() {
         FaultKind::Mismatch
@@ -184,7 +184,7 @@ fn updated(
     left: TypedExpr,
     right: TypedExpr,
 ) -> Result<TypedStmt, RuleError>
-    ensures { Gives stmt_of result (updated operator (expr_of left) (expr_of right)) }
+    ensures { Gives as_stmt result (update_verdict operator (as_expr left) (as_expr right)) }
 {
     let is_left = is_left(&left);
     let operation = binary_of(alloc, operator, left, right);
@@ -206,7 +206,7 @@ fn updated_at(
     left: Option<TypedExpr>,
     right: Option<TypedExpr>,
 ) -> Result<Option<TypedStmt>, ExprError>
-    ensures { AnswersAt stmt_of result place (asked (λ k. updated operator k.0 k.1) (both (option_map expr_of left) (option_map expr_of right))) }
+    ensures { AnswersAt as_stmt result place (asked (λ k. update_verdict operator k.0 k.1) (both (option_map as_expr left) (option_map as_expr right))) }
 {
     let Some(left) = left else {
         return Ok(None);
@@ -227,7 +227,7 @@ pub(crate) fn check_update(
     left: &Expr,
     right: &Expr,
 ) -> Result<Option<TypedStmt>, ExprError>
-    ensures { Answered stmt_of result
+    ensures { Answered as_stmt result
         (simple_at (context_of context.entry) place (operator_assignment operator (expr_tree left.now) (expr_tree right.now)) (env_of env.now)) }
 {
     let left = check_value(alloc, context, env, left)?;

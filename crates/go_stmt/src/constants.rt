@@ -5,18 +5,18 @@ ghost use Rattle.std.specs.Option.{option_map};
 ghost use Rattle.go_ast.specs.Trees as trees;
 ghost use Rattle.go_ast.specs.Trees.{no_exprs};
 ghost use Rattle.go_ast.specs.Views.{const_of, exprs_in as exprs_trees, type_of as type_tree};
-ghost use Rattle.go_types.specs.Views.{type_of};
-ghost use Rattle.go_typed.specs.Views.{expr_of, stmt_of};
+ghost use Rattle.go_types.specs.Views.{go_type};
+ghost use Rattle.go_typed.specs.Views.{as_expr, as_stmt};
 ghost use Rattle.go_expr.specs.Rules.{fine, assigned};
 ghost use Rattle.go_expr.specs.Verdicts.{asked, both, operand, verdict, type_verdict, type_faults};
-ghost use Rattle.go_expr.specs.Seen.{all_of, declared_of, scope_of, AnswersAt};
-ghost use Rattle.go_stmt.specs.Scopes.{nothing, paired};
-ghost use Rattle.go_stmt.specs.Rules.{all_some, constants_of};
+ghost use Rattle.go_expr.specs.Views.{all_of, declared_of, scope_of, AnswersAt};
+ghost use Rattle.go_stmt.specs.Scopes.{nothing, paired_names};
+ghost use Rattle.go_stmt.specs.Rules.{all_some, constants_verdict};
 ghost use Rattle.go_scope.specs.Specifications.{meant, is_repeated};
 ghost use Rattle.go_uses.specs.Uses.{in_const};
-ghost use Rattle.go_stmt.specs.Statements.{is_unknown, each_of, operands_faults, written_at, repeated_faults, spec_at, declared_as, constant_in};
+ghost use Rattle.go_stmt.specs.Statements.{is_unknown, each_of, operands_faults, written_at, repeated_faults, spec_at, declared_as, declared_constant};
 ghost use Rattle.go_stmt.specs.Statements.{declare_constants, constants_at, group_at};
-ghost use Rattle.go_stmt.specs.Seen.{context_of, env_of, spec_of, typed_in, Answered, Finds};
+ghost use Rattle.go_stmt.specs.Views.{context_of, env_of, constant_spec, typed_in, Answered, Finds};
 
 use crate::context::Context;
 use crate::control::joined;
@@ -56,7 +56,7 @@ pub(crate) struct Spec<'a> {
 
 /// What a specification means behind another: without values the type and the values of that one.
 fn meant<'a>(before: Spec<'a>, spec: &'a ConstSpec) -> Spec<'a>
-    ensures { spec_of result ≡ meant (spec_of before.entry) (const_of spec.now) }
+    ensures { constant_spec result ≡ meant (constant_spec before.entry) (const_of spec.now) }
 {
     let names = spec.names.as_slice();
     let values = spec.values.as_slice();
@@ -80,7 +80,7 @@ fn is_repeated(spec: &ConstSpec) -> bool
 
 /// What a name declares by a constant; nothing is known of one by another value.
 fn declared_as(value: &TypedExpr) -> Result<Option<Declared>, AllocError>
-    ensures { IfOk result (λ d. option_map declared_of d ≡ declared_as (Some (expr_of value.now))) }
+    ensures { IfOk result (λ d. option_map declared_of d ≡ declared_as (Some (as_expr value.now))) }
 {
     match constant_in(value) {
         Some(constant) => {
@@ -97,7 +97,7 @@ fn declared_by(
     of: &GoType,
     value: &TypedExpr,
 ) -> Result<Option<Declared>, AllocError>
-    ensures { IfOk result (λ d. option_map declared_of d ≡ declared_as (fine (assigned (type_of of.now) (expr_of value.now)))) }
+    ensures { IfOk result (λ d. option_map declared_of d ≡ declared_as (fine (assigned (go_type of.now) (as_expr value.now)))) }
 {
     let Some(known) = constant_in(value) else {
         return Ok(None);
@@ -115,7 +115,7 @@ fn all_declared(
     alloc: Global,
     values: &[Option<TypedExpr>],
 ) -> Result<Vec<Option<Declared>>, AllocError>
-    ensures { IfOk result (λ all. map (option_map declared_of) all.items ≡ map declared_as (map (option_map expr_of) values.now)) }
+    ensures { IfOk result (λ all. map (option_map declared_of) all.items ≡ map declared_as (map (option_map as_expr) values.now)) }
 {
     let mut all = Vec::with_capacity(alloc, values.len())?;
     for value in values {
@@ -135,7 +135,7 @@ fn all_declared_by(
     values: &[Option<TypedExpr>],
 ) -> Result<Vec<Option<Declared>>, AllocError>
     ensures { IfOk result (λ all. map (option_map declared_of) all.items
-        ≡ map (λ e. declared_as (fine (asked (λ k. assigned k.0 k.1) (both (option_map type_of of.now) e)))) (map (option_map expr_of) values.now)) }
+        ≡ map (λ e. declared_as (fine (asked (λ k. assigned k.0 k.1) (both (option_map go_type of.now) e)))) (map (option_map as_expr) values.now)) }
 {
     let mut all = Vec::with_capacity(alloc, values.len())?;
     for value in values {
@@ -162,10 +162,10 @@ struct Parts {
 /// The values of constants without a type, in a scope in which iota has their value.
 fn check_untyped(alloc: Global, scope: &Scope<'_>, es: &[Expr]) -> Result<Parts, ExprError>
     ensures faults { Finds result (operands_faults (scope_of scope.now) (exprs_trees es.now)) }
-    ensures written { IfOk result (λ p. option_map (option_map type_of) p.written ≡ Some None) }
-    ensures declared { IfOk result (λ p. map (option_map declared_of) p.declared.items ≡ each_of (constant_in (scope_of scope.now) None) (exprs_trees es.now)) }
+    ensures written { IfOk result (λ p. option_map (option_map go_type) p.written ≡ Some None) }
+    ensures declared { IfOk result (λ p. map (option_map declared_of) p.declared.items ≡ each_of (declared_constant (scope_of scope.now) None) (exprs_trees es.now)) }
     ensures values { let s = scope_of scope.now in
-        IfOk result (λ p. option_map (all_of expr_of) p.values ≡ all_some (each_of (λ e. operand (verdict s e)) (exprs_trees es.now))) }
+        IfOk result (λ p. option_map (all_of as_expr) p.values ≡ all_some (each_of (λ e. operand (verdict s e)) (exprs_trees es.now))) }
 {
     let values = check_each(alloc, scope, es)?;
     let declared = all_declared(alloc, &values)?;
@@ -186,11 +186,11 @@ fn check_typed(
 ) -> Result<Parts, ExprError>
     ensures faults { let s = scope_of scope.now in Finds result (type_faults s (type_tree of.now) ++ operands_faults s (exprs_trees es.now)) }
     ensures written { let s = scope_of scope.now in
-        IfOk result (λ p. option_map (option_map type_of) p.written ≡ option_map Some (fine (type_verdict s (type_tree of.now)))) }
+        IfOk result (λ p. option_map (option_map go_type) p.written ≡ option_map Some (fine (type_verdict s (type_tree of.now)))) }
     ensures declared { let s = scope_of scope.now in
-        IfOk result (λ p. map (option_map declared_of) p.declared.items ≡ each_of (constant_in s (Some (type_tree of.now))) (exprs_trees es.now)) }
+        IfOk result (λ p. map (option_map declared_of) p.declared.items ≡ each_of (declared_constant s (Some (type_tree of.now))) (exprs_trees es.now)) }
     ensures values { let s = scope_of scope.now in
-        IfOk result (λ p. option_map (all_of expr_of) p.values ≡ all_some (each_of (λ e. operand (verdict s e)) (exprs_trees es.now))) }
+        IfOk result (λ p. option_map (all_of as_expr) p.values ≡ all_some (each_of (λ e. operand (verdict s e)) (exprs_trees es.now))) }
 {
     let known = check_type(alloc, scope, of)?;
     let values = check_each(alloc, scope, es)?;
@@ -205,14 +205,14 @@ fn check_typed(
 
 /// The type and the values of constants, in a scope in which iota has their value.
 fn check_parts(alloc: Global, scope: &Scope<'_>, spec: Spec<'_>) -> Result<Parts, ExprError>
-    ensures faults { let s = scope_of scope.now in let t = (spec_of spec.entry).type in
-        Finds result ((written_at s t nothing).faults ++ operands_faults s (spec_of spec.entry).values) }
+    ensures faults { let s = scope_of scope.now in let t = (constant_spec spec.entry).type in
+        Finds result ((written_at s t nothing).faults ++ operands_faults s (constant_spec spec.entry).values) }
     ensures written { let s = scope_of scope.now in
-        IfOk result (λ p. option_map (option_map type_of) p.written ≡ (written_at s (spec_of spec.entry).type nothing).known) }
+        IfOk result (λ p. option_map (option_map go_type) p.written ≡ (written_at s (constant_spec spec.entry).type nothing).known) }
     ensures declared { let s = scope_of scope.now in
-        IfOk result (λ p. map (option_map declared_of) p.declared.items ≡ each_of (constant_in s (spec_of spec.entry).type) (spec_of spec.entry).values) }
+        IfOk result (λ p. map (option_map declared_of) p.declared.items ≡ each_of (declared_constant s (constant_spec spec.entry).type) (constant_spec spec.entry).values) }
     ensures values { let s = scope_of scope.now in
-        IfOk result (λ p. option_map (all_of expr_of) p.values ≡ all_some (each_of (λ e. operand (verdict s e)) (spec_of spec.entry).values)) }
+        IfOk result (λ p. option_map (all_of as_expr) p.values ≡ all_some (each_of (λ e. operand (verdict s e)) (constant_spec spec.entry).values)) }
 {
     match spec.of {
         Some(of) => check_typed(alloc, scope, of, spec.values),
@@ -225,11 +225,11 @@ fn check_parts(alloc: Global, scope: &Scope<'_>, spec: Spec<'_>) -> Result<Parts
 #[tactic(auto, using(crate::proofs::Several::each_mapped))]
 fn known_parts(alloc: Global, scope: &Scope<'_>, spec: Spec<'_>) -> Result<Parts, AllocError>
     ensures written { let s = scope_of scope.now in
-        IfOk result (λ p. option_map (option_map type_of) p.written ≡ (written_at s (spec_of spec.entry).type nothing).known) }
+        IfOk result (λ p. option_map (option_map go_type) p.written ≡ (written_at s (constant_spec spec.entry).type nothing).known) }
     ensures declared { let s = scope_of scope.now in
-        IfOk result (λ p. map (option_map declared_of) p.declared.items ≡ each_of (constant_in s (spec_of spec.entry).type) (spec_of spec.entry).values) }
+        IfOk result (λ p. map (option_map declared_of) p.declared.items ≡ each_of (declared_constant s (constant_spec spec.entry).type) (constant_spec spec.entry).values) }
     ensures values { let s = scope_of scope.now in
-        IfOk result (λ p. option_map (all_of expr_of) p.values ≡ all_some (each_of (λ e. operand (verdict s e)) (spec_of spec.entry).values)) }
+        IfOk result (λ p. option_map (all_of as_expr) p.values ≡ all_some (each_of (λ e. operand (verdict s e)) (constant_spec spec.entry).values)) }
 {
     let Some(of) = spec.of else {
         let values = known_values(alloc, scope, spec.values)?;
@@ -255,14 +255,14 @@ fn check_repeated(
     place: Place,
     spec: Spec<'_>,
 ) -> Result<Parts, ExprError>
-    ensures faults { let s = scope_of scope.now in let hidden = list_any (is_unknown s) (in_const (spec_of spec.entry)) in
-        Finds result (repeated_faults hidden place s (spec_of spec.entry).type (spec_of spec.entry).values) }
+    ensures faults { let s = scope_of scope.now in let hidden = list_any (is_unknown s) (in_const (constant_spec spec.entry)) in
+        Finds result (repeated_faults hidden place s (constant_spec spec.entry).type (constant_spec spec.entry).values) }
     ensures written { let s = scope_of scope.now in
-        IfOk result (λ p. option_map (option_map type_of) p.written ≡ (written_at s (spec_of spec.entry).type nothing).known) }
+        IfOk result (λ p. option_map (option_map go_type) p.written ≡ (written_at s (constant_spec spec.entry).type nothing).known) }
     ensures declared { let s = scope_of scope.now in
-        IfOk result (λ p. map (option_map declared_of) p.declared.items ≡ each_of (constant_in s (spec_of spec.entry).type) (spec_of spec.entry).values) }
+        IfOk result (λ p. map (option_map declared_of) p.declared.items ≡ each_of (declared_constant s (constant_spec spec.entry).type) (constant_spec spec.entry).values) }
     ensures values { let s = scope_of scope.now in
-        IfOk result (λ p. option_map (all_of expr_of) p.values ≡ all_some (each_of (λ e. operand (verdict s e)) (spec_of spec.entry).values)) }
+        IfOk result (λ p. option_map (all_of as_expr) p.values ≡ all_some (each_of (λ e. operand (verdict s e)) (constant_spec spec.entry).values)) }
 {
     if let Some(kind) = repeated_fault(alloc, scope, spec.of, spec.values)? {
         if !names_unknown(alloc, scope, place, spec)? {
@@ -280,7 +280,7 @@ fn names_unknown(
     place: Place,
     spec: Spec<'_>,
 ) -> Result<bool, AllocError>
-    ensures { let s = scope_of scope.now in IfOk result (λ b. b ≡ list_any (is_unknown s) (in_const (spec_of spec.entry))) }
+    ensures { let s = scope_of scope.now in IfOk result (λ b. b ≡ list_any (is_unknown s) (in_const (constant_spec spec.entry))) }
 {
     let names = names_used(alloc, spec.of, spec.values)?;
     any_unknown(scope, place, &names)
@@ -295,13 +295,13 @@ fn check_spec(
     repeated: bool,
     spec: Spec<'_>,
 ) -> Result<Parts, ExprError>
-    ensures faults { let s = scope_of scope.now in Finds result (spec_at s place repeated (spec_of spec.entry) nothing).faults }
+    ensures faults { let s = scope_of scope.now in Finds result (spec_at s place repeated (constant_spec spec.entry) nothing).faults }
     ensures written { let s = scope_of scope.now in
-        IfOk result (λ p. option_map (option_map type_of) p.written ≡ (written_at s (spec_of spec.entry).type nothing).known) }
+        IfOk result (λ p. option_map (option_map go_type) p.written ≡ (written_at s (constant_spec spec.entry).type nothing).known) }
     ensures declared { let s = scope_of scope.now in
-        IfOk result (λ p. map (option_map declared_of) p.declared.items ≡ each_of (constant_in s (spec_of spec.entry).type) (spec_of spec.entry).values) }
+        IfOk result (λ p. map (option_map declared_of) p.declared.items ≡ each_of (declared_constant s (constant_spec spec.entry).type) (constant_spec spec.entry).values) }
     ensures values { let s = scope_of scope.now in
-        IfOk result (λ p. option_map (all_of expr_of) p.values ≡ all_some (each_of (λ e. operand (verdict s e)) (spec_of spec.entry).values)) }
+        IfOk result (λ p. option_map (all_of as_expr) p.values ≡ all_some (each_of (λ e. operand (verdict s e)) (constant_spec spec.entry).values)) }
 {
     if repeated {
         check_repeated(alloc, scope, place, spec)
@@ -316,7 +316,7 @@ fn declare_each(
     names: &[Name],
     declared: Vec<Option<Declared>>,
 ) -> Result<(), AllocError>
-    ensures { OnOk result (env_of env.new ≡ declare_constants (paired names.now (map (option_map declared_of) declared.items)) (env_of env.old)) }
+    ensures { OnOk result (env_of env.new ≡ declare_constants (paired_names names.now (map (option_map declared_of) declared.items)) (env_of env.old)) }
 {
     let mut rest = declared.into_iter();
     for name in names {
@@ -337,8 +337,8 @@ fn constants_at(
     written: Option<Option<GoType>>,
     values: Option<Vec<TypedExpr>>,
 ) -> Result<Option<TypedStmt>, ExprError>
-    ensures { AnswersAt stmt_of result place
-        (asked (λ k. constants_of names.now k.0 k.1) (both (option_map (option_map type_of) written) (option_map (all_of expr_of) values))) }
+    ensures { AnswersAt as_stmt result place
+        (asked (λ k. constants_verdict names.now k.0 k.1) (both (option_map (option_map go_type) written) (option_map (all_of as_expr) values))) }
 {
     let Some(of) = written else {
         return Ok(None);
@@ -359,8 +359,8 @@ fn check_constants(
     repeated: bool,
     spec: Spec<'_>,
 ) -> Result<Option<Vec<TypedStmt>>, ExprError>
-    ensures answer { Answered typed_in result (constants_at (context_of context.entry) place iota repeated (spec_of spec.entry) (env_of env.old)) }
-    ensures after { OnOk result (env_of env.new ≡ (constants_at (context_of context.entry) place iota repeated (spec_of spec.entry) (env_of env.old)).after) }
+    ensures answer { Answered typed_in result (constants_at (context_of context.entry) place iota repeated (constant_spec spec.entry) (env_of env.old)) }
+    ensures after { OnOk result (env_of env.new ≡ (constants_at (context_of context.entry) place iota repeated (constant_spec spec.entry) (env_of env.old)).after) }
 {
     check_names(alloc, env, spec.names)?;
     let first = place_at(place, spec.names);

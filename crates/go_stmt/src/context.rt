@@ -2,15 +2,15 @@
 ghost use Rattle.std.specs.Prelude.{◌≡◌, None, map, option_map};
 ghost use Rattle.std.specs.List.{flat_map, list_any};
 ghost use Rattle.std.specs.Str.{bytes_eq};
-ghost use Rattle.go_ast.specs.Trees.{pack_stmts};
+ghost use Rattle.go_ast.specs.Trees.{pack_statements};
 ghost use Rattle.go_ast.specs.Views.{const_of, stmt_of};
 ghost use Rattle.go_ast.specs.Trees as trees;
 ghost use Rattle.go_uses.specs.Uses.{texts};
 ghost use Rattle.go_stmt.specs.Statements.{in_block, in_loop, in_clause, constant_names, all_empty, before_others};
-ghost use Rattle.go_types.specs.Views.{type_of};
-ghost use Rattle.go_expr.specs.Seen.{scope_of};
+ghost use Rattle.go_types.specs.Views.{go_type};
+ghost use Rattle.go_expr.specs.Views.{scope_of};
 ghost use Rattle.go_stmt.specs.Scopes.{nothing, scope_in};
-ghost use Rattle.go_stmt.specs.Seen.{constants_in, context_of, trees_in};
+ghost use Rattle.go_stmt.specs.Views.{constant_names_in, context_of, trees_in};
 
 use go_ast::declaration::{ConstSpec, Decl};
 use go_ast::name::Name;
@@ -54,14 +54,14 @@ impl<'a> Context<'a> {
 
     /// In a function with results of these types, each where it is known.
     pub(crate) fn returning(self, results: &'a [Option<GoType>]) -> Context<'a>
-        ensures { context_of result ≡ record (context_of self.entry) { results = map (option_map type_of) results.now } }
+        ensures { context_of result ≡ record (context_of self.entry) { results = map (option_map go_type) results.now } }
     {
         Context { results, ..self }
     }
 
     /// Behind some statements of a block.
     pub(crate) fn behind(self, before: &'a [Stmt]) -> Context<'a>
-        ensures { context_of result ≡ record (context_of self.entry) { constants = constants_in before.now } }
+        ensures { context_of result ≡ record (context_of self.entry) { constants = constant_names_in before.now } }
     {
         Context { before, ..self }
     }
@@ -126,7 +126,7 @@ pub(crate) fn all_empty(statements: &[Stmt]) -> bool
 
 /// Whether some statements declare a constant of a name.
 pub(crate) fn is_constant(statements: &[Stmt], name: &Name) -> bool
-    ensures { result ≡ list_any (bytes_eq name.now.text) (constants_in statements.now) }
+    ensures { result ≡ list_any (bytes_eq name.now.text) (constant_names_in statements.now) }
 {
     for s in statements {
         if declares_constant(s, name) {

@@ -2,16 +2,16 @@
 ghost use Rattle.std.specs.Prelude.{◌≡◌, ◌++◌, ◌∷◌, [], Some, None, List, if◌then◌else◌, IfOk, OnOk, map, option_map};
 ghost use Rattle.go_ast.specs.Trees as trees;
 ghost use Rattle.go_ast.specs.Views.{expr_of as expr_tree, exprs_in as exprs_trees, if_boxed};
-ghost use Rattle.go_types.specs.Views.{type_of};
+ghost use Rattle.go_types.specs.Views.{go_type};
 ghost use Rattle.go_typed.specs.Trees as typed;
-ghost use Rattle.go_typed.specs.Views.{expr_of, stmt_of};
+ghost use Rattle.go_typed.specs.Views.{as_expr, as_stmt};
 ghost use Rattle.go_expr.specs.Known.{Verdict};
 ghost use Rattle.go_expr.specs.Verdicts.{asked, both};
-ghost use Rattle.go_expr.specs.Seen.{Gives, AnswersAt};
-ghost use Rattle.go_stmt.specs.Rules.{conditional, loop_condition, looped, counted, ranged, branch, returned};
+ghost use Rattle.go_expr.specs.Views.{Gives, AnswersAt};
+ghost use Rattle.go_stmt.specs.Rules.{conditional, loop_condition, looped, counted, ranged, branch, return_verdict};
 ghost use Rattle.go_stmt.specs.Scopes.{declare_new};
 ghost use Rattle.go_stmt.specs.Statements.{one_block, range_type, range_names, range_number, value_at, condition_at, statement_at};
-ghost use Rattle.go_stmt.specs.Seen.{context_of, env_of, typed_in, values_seen, Answered};
+ghost use Rattle.go_stmt.specs.Views.{context_of, env_of, typed_in, values_seen, Answered};
 
 use crate::context::Context;
 use crate::env::Env;
@@ -37,7 +37,7 @@ pub(crate) fn check_value(
     env: &Env,
     e: &Expr,
 ) -> Result<Option<TypedExpr>, ExprError>
-    ensures { Answered expr_of result (value_at (context_of context.entry) (expr_tree e.now) (env_of env.now)) }
+    ensures { Answered as_expr result (value_at (context_of context.entry) (expr_tree e.now) (env_of env.now)) }
 {
     check_operand(alloc, &env.scope(context, None), e)
 }
@@ -60,7 +60,7 @@ pub(crate) fn with_last(
     statements: Vec<TypedStmt>,
     last: TypedStmt,
 ) -> Result<Vec<TypedStmt>, AllocError>
-    ensures { IfOk result (λ all. typed_in all ≡ typed_in statements ++ stmt_of last ∷ []) }
+    ensures { IfOk result (λ all. typed_in all ≡ typed_in statements ++ as_stmt last ∷ []) }
 {
     let mut all = statements;
     all.push(last)?;
@@ -69,14 +69,14 @@ pub(crate) fn with_last(
 
 #[tactic(auto, using(go_typed::proofs::StatementRows::if_seen))]
 fn if_of(condition: TypedExpr, first: Vec<TypedStmt>, second: Vec<TypedStmt>) -> TypedStmt
-    ensures { stmt_of result ≡ typed.if_statement (expr_of condition) (typed.pack_stmts (typed_in first)) (typed.pack_stmts (typed_in second)) }
+    ensures { as_stmt result ≡ typed.if_statement (as_expr condition) (typed.pack_stmts (typed_in first)) (typed.pack_stmts (typed_in second)) }
 {
     TypedStmt::If(condition, first, second)
 }
 
 #[tactic(auto, using(go_typed::proofs::StatementRows::for_seen))]
 fn for_of(condition: Option<TypedExpr>, post: Vec<TypedStmt>, body: Vec<TypedStmt>) -> TypedStmt
-    ensures { stmt_of result ≡ typed.for_statement (option_map expr_of condition) (typed.pack_stmts (typed_in post)) (typed.pack_stmts (typed_in body)) }
+    ensures { as_stmt result ≡ typed.for_statement (option_map as_expr condition) (typed.pack_stmts (typed_in post)) (typed.pack_stmts (typed_in body)) }
 {
     TypedStmt::For(condition, post, body)
 }
@@ -89,7 +89,7 @@ fn conditional_of(
     first: Vec<TypedStmt>,
     second: Vec<TypedStmt>,
 ) -> Result<Vec<TypedStmt>, RuleError>
-    ensures { Gives typed_in result (conditional (typed_in before) (expr_of condition) (typed_in first) (typed_in second)) }
+    ensures { Gives typed_in result (conditional (typed_in before) (as_expr condition) (typed_in first) (typed_in second)) }
 {
     let condition = condition_due(alloc, condition)?;
     Ok(with_last(before, if_of(condition, first, second))?)
@@ -106,7 +106,7 @@ pub(crate) fn conditional(
 ) -> Result<Option<Vec<TypedStmt>>, ExprError>
     ensures { AnswersAt typed_in result place
         (asked (λ k. conditional k.0 (k.1).0 ((k.1).1).0 ((k.1).1).1)
-        (both (option_map typed_in before) (both (option_map expr_of condition) (both (option_map typed_in first) (option_map typed_in second))))) }
+        (both (option_map typed_in before) (both (option_map as_expr condition) (both (option_map typed_in first) (option_map typed_in second))))) }
 {
     let Some(before) = before else {
         return Ok(None);
@@ -127,7 +127,7 @@ pub(crate) fn conditional(
 
 /// The condition of a loop, where one is due. `Mismatch` where it isn't bool.
 fn condition_of(alloc: Global, condition: Option<TypedExpr>) -> Result<Option<TypedExpr>, RuleError>
-    ensures { Gives (option_map expr_of) result (loop_condition (option_map expr_of condition)) }
+    ensures { Gives (option_map as_expr) result (loop_condition (option_map as_expr condition)) }
 {
     match condition {
         Some(condition) => Ok(Some(condition_due(alloc, condition)?)),
@@ -143,7 +143,7 @@ fn loop_of(
     post: Vec<TypedStmt>,
     body: Vec<TypedStmt>,
 ) -> Result<Vec<TypedStmt>, RuleError>
-    ensures { Gives typed_in result (looped (typed_in before) (option_map expr_of condition) (typed_in post) (typed_in body)) }
+    ensures { Gives typed_in result (looped (typed_in before) (option_map as_expr condition) (typed_in post) (typed_in body)) }
 {
     let condition = condition_of(alloc, condition)?;
     Ok(with_last(before, for_of(condition, post, body))?)
@@ -160,7 +160,7 @@ pub(crate) fn looped(
 ) -> Result<Option<Vec<TypedStmt>>, ExprError>
     ensures { AnswersAt typed_in result place
         (asked (λ k. looped k.0 (k.1).0 ((k.1).1).0 ((k.1).1).1)
-        (both (option_map typed_in before) (both (option_map (option_map expr_of) condition) (both (option_map typed_in post) (option_map typed_in body))))) }
+        (both (option_map typed_in before) (both (option_map (option_map as_expr) condition) (both (option_map typed_in post) (option_map typed_in body))))) }
 {
     let Some(before) = before else {
         return Ok(None);
@@ -183,7 +183,7 @@ pub(crate) fn check_condition(
     env: &Env,
     e: &Option<Box<Expr>>,
 ) -> Result<Option<Option<TypedExpr>>, ExprError>
-    ensures { Answered (option_map expr_of) result (condition_at (context_of context.entry) (if_boxed expr_tree e.now) (env_of env.now)) }
+    ensures { Answered (option_map as_expr) result (condition_at (context_of context.entry) (if_boxed expr_tree e.now) (env_of env.now)) }
 {
     match e {
         Some(e) => match check_value(alloc, context, env, e)? {
@@ -195,13 +195,13 @@ pub(crate) fn check_condition(
 }
 
 /// A return with some values, of a function with results of these types, each where it is known.
-#[tactic(auto, unfolding(go_typed::specs::Views::stmt_of))]
+#[tactic(auto, unfolding(go_typed::specs::Views::as_stmt))]
 fn return_of(
     alloc: Global,
     results: &[Option<GoType>],
     values: Values,
 ) -> Result<Vec<TypedStmt>, RuleError>
-    ensures { Gives typed_in result (returned (map (option_map type_of) results.now) (values_seen values)) }
+    ensures { Gives typed_in result (return_verdict (map (option_map go_type) results.now) (values_seen values)) }
 {
     let due = dues(alloc, results)?;
     let source = suited_partly(alloc, &due, values)?;
@@ -215,7 +215,7 @@ fn returned(
     results: &[Option<GoType>],
     values: Option<Values>,
 ) -> Result<Option<Vec<TypedStmt>>, ExprError>
-    ensures { AnswersAt typed_in result place (asked (returned (map (option_map type_of) results.now)) (option_map values_seen values)) }
+    ensures { AnswersAt typed_in result place (asked (return_verdict (map (option_map go_type) results.now)) (option_map values_seen values)) }
 {
     match values {
         Some(values) => located(place, return_of(alloc, results, values)),
@@ -285,7 +285,7 @@ pub(crate) fn one_block(
 
 /// The type of the variable that counts, where the range breaks no rule.
 pub(crate) fn range_type(operand: &Option<TypedExpr>) -> Result<Option<GoType>, AllocError>
-    ensures { IfOk result (λ t. option_map type_of t ≡ range_type (option_map expr_of operand.now)) }
+    ensures { IfOk result (λ t. option_map go_type t ≡ range_type (option_map as_expr operand.now)) }
 {
     match operand {
         Some(operand) if is_integer(type_in(operand)) => settled_type(operand),
@@ -296,7 +296,7 @@ pub(crate) fn range_type(operand: &Option<TypedExpr>) -> Result<Option<GoType>, 
 /// The range of a loop. `Mismatch` where it is no integer, `Range` where it lies outside of the type
 /// that it takes.
 fn counted(alloc: Global, operand: TypedExpr) -> Result<TypedExpr, RuleError>
-    ensures { Gives expr_of result (counted (expr_of operand)) }
+    ensures { Gives as_expr result (counted (as_expr operand)) }
 {
     if !is_integer(type_in(&operand)) {
         return Err(RuleError::Broken(FaultKind::Mismatch));
@@ -310,8 +310,8 @@ fn range_of(
     operand: TypedExpr,
     body: Vec<TypedStmt>,
 ) -> Result<TypedStmt, AllocError>
-    ensures { let e = expr_of operand in
-        IfOk result (λ s. stmt_of s ≡ typed.range_statement number (typed.expr_type e) e (typed.pack_stmts (typed_in body))) }
+    ensures { let e = as_expr operand in
+        IfOk result (λ s. as_stmt s ≡ typed.range_statement number (typed.expr_type e) e (typed.pack_stmts (typed_in body))) }
 {
     let of = type_in(&operand).copy()?;
     Ok(TypedStmt::Range(number, of, operand, body))
@@ -324,7 +324,7 @@ fn counting(
     operand: TypedExpr,
     body: Option<Vec<TypedStmt>>,
 ) -> Result<Option<Vec<TypedStmt>>, AllocError>
-    ensures { let e = expr_of operand in
+    ensures { let e = as_expr operand in
         IfOk result (λ all. option_map typed_in all ≡
         option_map (λ ss. typed.range_statement number (typed.expr_type e) e (typed.pack_stmts ss) ∷ []) (option_map typed_in body)) }
 {
@@ -345,7 +345,7 @@ fn loop_over(
     operand: TypedExpr,
     body: Option<Vec<TypedStmt>>,
 ) -> Result<Option<Vec<TypedStmt>>, ExprError>
-    ensures { AnswersAt typed_in result place (ranged number (expr_of operand) (option_map typed_in body)) }
+    ensures { AnswersAt typed_in result place (ranged number (as_expr operand) (option_map typed_in body)) }
 {
     match counted(alloc, operand) {
         Ok(operand) => Ok(counting(alloc, number, operand, body)?),
@@ -363,7 +363,7 @@ pub(crate) fn ranged(
     body: Option<Vec<TypedStmt>>,
 ) -> Result<Option<Vec<TypedStmt>>, ExprError>
     ensures { AnswersAt typed_in result place
-        (asked (λ k. ranged number k.0 k.1) (both (option_map expr_of operand) (if hidden then None else Some (option_map typed_in body)))) }
+        (asked (λ k. ranged number k.0 k.1) (both (option_map as_expr operand) (if hidden then None else Some (option_map typed_in body)))) }
 {
     if hidden {
         return Ok(None);
@@ -382,7 +382,7 @@ pub(crate) fn declare_range(
     of: Option<GoType>,
 ) -> Result<Option<usize>, AllocError>
     ensures number { IfOk result (λ n. n ≡ range_number name.now (env_of env.new)) }
-    ensures after { OnOk result (env_of env.new ≡ declare_new (range_names name.now (option_map type_of of)) (env_of env.old)) }
+    ensures after { OnOk result (env_of env.new ≡ declare_new (range_names name.now (option_map go_type of)) (env_of env.old)) }
 {
     match name {
         Some(name) => {

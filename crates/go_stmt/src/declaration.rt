@@ -3,11 +3,11 @@
 ghost use Rattle.std.specs.Prelude.{◌≡◌, Some, IfOk, map};
 ghost use Rattle.std.specs.List.{list_all};
 ghost use Rattle.std.specs.Option.{option_map};
-ghost use Rattle.go_types.specs.Views.{type_of};
-ghost use Rattle.go_typed.specs.Views.{expr_of, source_of, stmt_of};
-ghost use Rattle.go_expr.specs.Seen.{Gives};
-ghost use Rattle.go_stmt.specs.Rules.{is_constant, constants_source, constants_of, are_none, variables_source, separate};
-ghost use Rattle.go_stmt.specs.Seen.{values_seen};
+ghost use Rattle.go_types.specs.Views.{go_type};
+ghost use Rattle.go_typed.specs.Views.{as_expr, as_source, as_stmt};
+ghost use Rattle.go_expr.specs.Views.{Gives};
+ghost use Rattle.go_stmt.specs.Rules.{is_constant, constants_source, constants_verdict, has_no_values, variables_source, separate};
+ghost use Rattle.go_stmt.specs.Views.{values_seen};
 
 use crate::values::{Values, suited};
 use go_ast::name::Name;
@@ -25,7 +25,7 @@ pub(crate) fn zeros_of(
     of: &GoType,
     names: &[Name],
 ) -> Result<Vec<GoType>, AllocError>
-    ensures { IfOk result (λ ts. map type_of ts.items ≡ map (λ n. type_of of.now) names.now) }
+    ensures { IfOk result (λ ts. map go_type ts.items ≡ map (λ n. go_type of.now) names.now) }
 {
     let mut all = Vec::with_capacity(alloc, names.len())?;
     for name in names {
@@ -41,7 +41,7 @@ pub(crate) fn due_each(
     of: Option<&GoType>,
     names: &[Name],
 ) -> Result<Vec<Option<GoType>>, AllocError>
-    ensures { IfOk result (λ ts. map (option_map type_of) ts.items ≡ map (λ n. option_map (λ t. type_of t.now) of.entry) names.now) }
+    ensures { IfOk result (λ ts. map (option_map go_type) ts.items ≡ map (λ n. option_map (λ t. go_type t.now) of.entry) names.now) }
 {
     let mut all = Vec::with_capacity(alloc, names.len())?;
     for name in names {
@@ -56,7 +56,7 @@ pub(crate) fn due_each(
 }
 
 fn are_none(values: &Values) -> bool
-    ensures { result ≡ are_none (values_seen values.now) }
+    ensures { result ≡ has_no_values (values_seen values.now) }
 {
     match values {
         Values::Separate(values) => values.len() == 0,
@@ -73,7 +73,7 @@ pub fn variables_source(
     of: Option<GoType>,
     values: Values,
 ) -> Result<TypedSource, RuleError>
-    ensures { Gives source_of result (variables_source names.now (option_map type_of of) (values_seen values)) }
+    ensures { Gives as_source result (variables_source names.now (option_map go_type of) (values_seen values)) }
 {
     match of {
         Some(of) => {
@@ -91,7 +91,7 @@ pub fn variables_source(
 }
 
 fn are_constant(values: &[TypedExpr]) -> bool
-    ensures { result ≡ list_all is_constant (map expr_of values.now) }
+    ensures { result ≡ list_all is_constant (map as_expr values.now) }
 {
     for value in values {
         if constant_in(value).is_none() {
@@ -107,7 +107,7 @@ fn constants_source(
     of: Option<GoType>,
     values: Vec<TypedExpr>,
 ) -> Result<TypedSource, RuleError>
-    ensures { Gives source_of result (constants_source names.now (option_map type_of of) (map expr_of values.items)) }
+    ensures { Gives as_source result (constants_source names.now (option_map go_type of) (map as_expr values.items)) }
 {
     match of {
         Some(of) => {
@@ -121,14 +121,14 @@ fn constants_source(
 /// A declaration of constants with these values, of a type that is written or not. `Mismatch` where
 /// one isn't constant; `Count` where they aren't as many as the names; else `Range` or `Assign` where
 /// one isn't assignable. [Constant declarations](https://go.dev/ref/spec#Constant_declarations)
-#[tactic(auto, unfolding(go_typed::specs::Views::stmt_of))]
+#[tactic(auto, unfolding(go_typed::specs::Views::as_stmt))]
 pub fn constants_of(
     alloc: Global,
     names: &[Name],
     of: Option<GoType>,
     values: Vec<TypedExpr>,
 ) -> Result<TypedStmt, RuleError>
-    ensures { Gives stmt_of result (constants_of names.now (option_map type_of of) (map expr_of values.items)) }
+    ensures { Gives as_stmt result (constants_verdict names.now (option_map go_type of) (map as_expr values.items)) }
 {
     if !are_constant(&values) {
         return Err(RuleError::Broken(FaultKind::Mismatch));

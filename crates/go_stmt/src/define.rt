@@ -3,17 +3,17 @@ ghost use Rattle.std.specs.Prelude.{◌≡◌, IfOk, OnOk, map, option_copied};
 ghost use Rattle.std.specs.List.{list_any};
 ghost use Rattle.std.specs.Option.{option_map};
 ghost use Rattle.go_ast.specs.Views.{exprs_in as exprs_trees};
-ghost use Rattle.go_types.specs.Views.{type_of};
+ghost use Rattle.go_types.specs.Views.{go_type};
 ghost use Rattle.go_typed.specs.Trees as typed;
-ghost use Rattle.go_typed.specs.Views.{source_of, stmt_of};
+ghost use Rattle.go_typed.specs.Views.{as_source, as_stmt};
 ghost use Rattle.go_expr.specs.Known.{Verdict, Passed};
 ghost use Rattle.go_expr.specs.Rules.{checked};
 ghost use Rattle.go_expr.specs.Verdicts.{asked};
-ghost use Rattle.go_expr.specs.Seen.{all_of, declared_of, Gives, AnswersAt};
-ghost use Rattle.go_stmt.specs.Scopes.{own, number_of, paired, declare_new};
+ghost use Rattle.go_expr.specs.Views.{all_of, declared_of, Gives, AnswersAt};
+ghost use Rattle.go_stmt.specs.Scopes.{own, variable_number, paired_names, declare_new};
 ghost use Rattle.go_stmt.specs.Rules.{is_new, due_for, dues_for, redefined};
 ghost use Rattle.go_stmt.specs.Statements.{short_at};
-ghost use Rattle.go_stmt.specs.Seen.{constants_in, context_of, env_of, values_seen, due_seen, Answered};
+ghost use Rattle.go_stmt.specs.Views.{constant_names_in, context_of, env_of, values_seen, due_seen, Answered};
 
 use crate::context::{Context, is_constant};
 use crate::env::Env;
@@ -72,7 +72,7 @@ fn all_due_for(
     env: &Env,
     names: &[Name],
 ) -> Result<Option<Vec<Due>>, AllocError>
-    ensures { IfOk result (λ due. option_map (all_of due_seen) due ≡ dues_for (constants_in before.now) (own (env_of env.now)) names.now) }
+    ensures { IfOk result (λ due. option_map (all_of due_seen) due ≡ dues_for (constant_names_in before.now) (own (env_of env.now)) names.now) }
 {
     let mut all = Vec::with_capacity(alloc, names.len())?;
     for name in names {
@@ -96,7 +96,7 @@ fn redefined(
     names: &[Name],
     values: Values,
 ) -> Result<Option<TypedSource>, ExprError>
-    ensures { AnswersAt source_of result place (redefined (constants_in before.now) (own (env_of env.now)) names.now (values_seen values)) }
+    ensures { AnswersAt as_source result place (redefined (constant_names_in before.now) (own (env_of env.now)) names.now (values_seen values)) }
 {
     if !differ(alloc, names)? || !any_new(env, names) {
         return Err(ExprError::Faulty(place, FaultKind::Redeclared));
@@ -115,7 +115,7 @@ fn passed(
     place: Place,
     given: Result<TypedSource, RuleError>,
 ) -> Result<Option<TypedSource>, ExprError>
-    ensures { (v : Verdict typed.Source) → Gives source_of given v → AnswersAt source_of result place (checked (λ source. Passed) v) }
+    ensures { (v : Verdict typed.ValueSource) → Gives as_source given v → AnswersAt as_source result place (checked (λ source. Passed) v) }
 {
     match given {
         Ok(_) => Ok(None),
@@ -128,7 +128,7 @@ pub(crate) fn sourced(
     place: Place,
     given: Result<TypedSource, RuleError>,
 ) -> Result<Option<TypedSource>, ExprError>
-    ensures { (v : Verdict typed.Source) → Gives source_of given v → AnswersAt source_of result place v }
+    ensures { (v : Verdict typed.ValueSource) → Gives as_source given v → AnswersAt as_source result place v }
 {
     match given {
         Ok(source) => Ok(Some(source)),
@@ -145,7 +145,7 @@ fn redefined_at(
     names: &[Name],
     values: Option<Values>,
 ) -> Result<Option<TypedSource>, ExprError>
-    ensures { AnswersAt source_of result place (asked (redefined (constants_in before.now) (own (env_of env.now)) names.now) (option_map values_seen values)) }
+    ensures { AnswersAt as_source result place (asked (redefined (constant_names_in before.now) (own (env_of env.now)) names.now) (option_map values_seen values)) }
 {
     match values {
         Some(values) => redefined(alloc, place, before, env, names, values),
@@ -156,7 +156,7 @@ fn redefined_at(
 /// Declares variables for those of some names that the block hasn't. An `Err` only where memory ran
 /// out.
 fn declare_new(env: &mut Env, names: &[Name], types: Vec<Option<GoType>>) -> Result<(), AllocError>
-    ensures { OnOk result (env_of env.new ≡ declare_new (paired names.now (map (option_map type_of) types.items)) (env_of env.old)) }
+    ensures { OnOk result (env_of env.new ≡ declare_new (paired_names names.now (map (option_map go_type) types.items)) (env_of env.old)) }
 {
     let mut rest = types.into_iter();
     for name in names {
@@ -171,7 +171,7 @@ fn declare_new(env: &mut Env, names: &[Name], types: Vec<Option<GoType>>) -> Res
 
 /// The numbers of the variables that names stand for; others have none.
 fn numbers_of(alloc: Global, env: &Env, names: &[Name]) -> Result<Vec<Option<usize>>, AllocError>
-    ensures { IfOk result (λ numbers. numbers.items ≡ map (number_of (env_of env.now)) names.now) }
+    ensures { IfOk result (λ numbers. numbers.items ≡ map (variable_number (env_of env.now)) names.now) }
 {
     let mut all = Vec::with_capacity(alloc, names.len())?;
     for name in names {
@@ -188,17 +188,17 @@ pub(crate) fn declare_all(
     names: &[Name],
     types: Vec<Option<GoType>>,
 ) -> Result<Vec<Option<usize>>, AllocError>
-    ensures numbers { IfOk result (λ numbers. numbers.items ≡ map (number_of (env_of env.new)) names.now) }
-    ensures after { OnOk result (env_of env.new ≡ declare_new (paired names.now (map (option_map type_of) types.items)) (env_of env.old)) }
+    ensures numbers { IfOk result (λ numbers. numbers.items ≡ map (variable_number (env_of env.new)) names.now) }
+    ensures after { OnOk result (env_of env.new ≡ declare_new (paired_names names.now (map (option_map go_type) types.items)) (env_of env.old)) }
 {
     declare_new(env, names, types)?;
     numbers_of(alloc, env, names)
 }
 
 /// Variables by their numbers get values, where these are known.
-#[tactic(auto, unfolding(go_typed::specs::Views::stmt_of))]
+#[tactic(auto, unfolding(go_typed::specs::Views::as_stmt))]
 pub(crate) fn defined(numbers: Vec<Option<usize>>, source: Option<TypedSource>) -> Option<TypedStmt>
-    ensures { option_map stmt_of result ≡ option_map (typed.define numbers.items) (option_map source_of source) }
+    ensures { option_map as_stmt result ≡ option_map (typed.define numbers.items) (option_map as_source source) }
 {
     match source {
         Some(source) => Some(TypedStmt::Define(numbers, source)),
@@ -215,7 +215,7 @@ pub(crate) fn check_short(
     names: &[Name],
     es: &[Expr],
 ) -> Result<Option<TypedStmt>, ExprError>
-    ensures answer { Answered stmt_of result (short_at (context_of context.entry) place names.now (exprs_trees es.now) (env_of env.old)) }
+    ensures answer { Answered as_stmt result (short_at (context_of context.entry) place names.now (exprs_trees es.now) (env_of env.old)) }
     ensures after { OnOk result (env_of env.new ≡ (short_at (context_of context.entry) place names.now (exprs_trees es.now) (env_of env.old)).after) }
 {
     let Valued { types, known } = check_values(alloc, &env.scope(context, None), es)?;

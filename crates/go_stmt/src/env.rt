@@ -1,10 +1,10 @@
 //! What is in scope in a function.
 //! [Declarations and scope](https://go.dev/ref/spec#Declarations_and_scope)
 ghost use Rattle.std.specs.Prelude.{◌≡◌, ◌∷◌, [], Ok, OnOk, map, option_map, option_copied};
-ghost use Rattle.go_types.specs.Views.{type_of};
-ghost use Rattle.go_expr.specs.Seen.{declared_of, scope_of};
-ghost use Rattle.go_stmt.specs.Scopes.{nothing, scope_in, enter, leave, own, number_of, declare_variable, declare_new, declare};
-ghost use Rattle.go_stmt.specs.Seen.{context_of, env_of};
+ghost use Rattle.go_types.specs.Views.{go_type};
+ghost use Rattle.go_expr.specs.Views.{declared_of, scope_of};
+ghost use Rattle.go_stmt.specs.Scopes.{nothing, scope_in, enter_scope, leave, own, variable_number, declare_variable, declare_new, declare_name};
+ghost use Rattle.go_stmt.specs.Views.{context_of, env_of};
 
 use crate::context::Context;
 use go_ast::name::Name;
@@ -35,7 +35,7 @@ impl Env {
 
     /// Goes into a block. An `Err` only where memory ran out.
     pub(crate) fn enter(&mut self) -> Result<(), AllocError>
-        ensures { OnOk result (env_of self.new ≡ enter (env_of self.old)) }
+        ensures { OnOk result (env_of self.new ≡ enter_scope (env_of self.old)) }
     {
         self.names.enter()
     }
@@ -74,7 +74,7 @@ impl Env {
 
     /// The number of a variable of the innermost block.
     pub(crate) fn number_of(&self, name: &Name) -> Option<usize>
-        ensures { result ≡ number_of (env_of self.now) name.now }
+        ensures { result ≡ variable_number (env_of self.now) name.now }
     {
         match self.own(name) {
             Some(Some(Declared::Local(_, number))) => Some(*number),
@@ -84,7 +84,7 @@ impl Env {
 
     /// The types of the function's local variables, by their numbers.
     pub(crate) fn into_types(self) -> Vec<GoType>
-        ensures { map type_of result.items ≡ (env_of self).types }
+        ensures { map go_type result.items ≡ (env_of self).types }
     {
         self.types
     }
@@ -97,7 +97,7 @@ impl Env {
         name: &Name,
         of: Option<GoType>,
     ) -> Result<(), AllocError>
-        ensures { OnOk result (env_of self.new ≡ declare_variable name.now.text (option_map type_of of) (env_of self.old)) }
+        ensures { OnOk result (env_of self.new ≡ declare_variable name.now.text (option_map go_type of) (env_of self.old)) }
     {
         match of {
             None => declared(self.names.declare(name.text(), None)),
@@ -112,7 +112,7 @@ impl Env {
     /// A variable for a name that the innermost block hasn't; the blank name has none. An `Err` only
     /// where memory ran out.
     pub(crate) fn declare_new(&mut self, name: &Name, of: Option<GoType>) -> Result<(), AllocError>
-        ensures { OnOk result (env_of self.new ≡ declare_new ((name.now, option_map type_of of) ∷ []) (env_of self.old)) }
+        ensures { OnOk result (env_of self.new ≡ declare_new ((name.now, option_map go_type of) ∷ []) (env_of self.old)) }
     {
         if name.text() == "_" {
             return Ok(());
@@ -126,7 +126,7 @@ impl Env {
     /// A name more in the innermost block; the blank one declares nothing. An `Err` where the block has
     /// it, or memory ran out.
     pub(crate) fn declare(&mut self, name: &Name, value: Option<Declared>) -> Result<(), AllocError>
-        ensures { OnOk result (env_of self.new ≡ declare name.now.text (option_map declared_of value) (env_of self.old)) }
+        ensures { OnOk result (env_of self.new ≡ declare_name name.now.text (option_map declared_of value) (env_of self.old)) }
     {
         declared(self.names.declare(name.text(), value))
     }

@@ -2,14 +2,14 @@
 ghost use Rattle.std.specs.Prelude.{◌≡◌, [], false, None, IfOk, OnOk, drop, length, map, option_map};
 ghost use Rattle.std.specs.List.{flat_map};
 ghost use Rattle.go_ast.specs.Views.{type_of as type_tree, block_of, parameter_of, function_of as function_tree};
-ghost use Rattle.go_types.specs.Views.{type_of};
-ghost use Rattle.go_typed.specs.Views.{function_of as typed_function};
-ghost use Rattle.go_expr.specs.Verdicts.{asked, both, joined, type_faults};
-ghost use Rattle.go_expr.specs.Seen.{all_of, names_in, AnswersAt};
+ghost use Rattle.go_types.specs.Views.{go_type};
+ghost use Rattle.go_typed.specs.Views.{as_function as typed_function};
+ghost use Rattle.go_expr.specs.Verdicts.{asked, both, chained, type_faults};
+ghost use Rattle.go_expr.specs.Views.{all_of, names_in, AnswersAt};
 ghost use Rattle.go_stmt.specs.Rules.{all_some};
 ghost use Rattle.go_stmt.specs.Scopes.{nothing, scope_in};
-ghost use Rattle.go_stmt.specs.Functions.{declare_parameters, parameter_at, parameters_at, result_types, body_at, whole, function_of, function_at};
-ghost use Rattle.go_stmt.specs.Seen.{context_of, env_of, typed_in, inside_of, parts_of, Answered, Finds};
+ghost use Rattle.go_stmt.specs.Functions.{declare_parameters, parameter_at, parameters_at, result_types, body_at, whole_function, function_from, function_at};
+ghost use Rattle.go_stmt.specs.Views.{context_of, env_of, typed_in, inside_of, parts_view, Answered, Finds};
 
 use crate::context::Context;
 use crate::declaration::zeros_of;
@@ -53,7 +53,7 @@ pub(crate) struct Parts {
 
 /// Declares parameters of one type.
 fn declare_parameters(env: &mut Env, names: &[Name], of: &Option<GoType>) -> Result<(), AllocError>
-    ensures { OnOk result (env_of env.new ≡ declare_parameters names.now (option_map type_of of.now) (env_of env.old)) }
+    ensures { OnOk result (env_of env.new ≡ declare_parameters names.now (option_map go_type of.now) (env_of env.old)) }
 {
     for name in names {
         let copy = match of {
@@ -71,7 +71,7 @@ fn types_of(
     of: Option<GoType>,
     names: &[Name],
 ) -> Result<Option<Vec<GoType>>, AllocError>
-    ensures { IfOk result (λ ts. option_map (all_of type_of) ts ≡ option_map (λ t. map (λ n. t) names.now) (option_map type_of of)) }
+    ensures { IfOk result (λ ts. option_map (all_of go_type) ts ≡ option_map (λ t. map (λ n. t) names.now) (option_map go_type of)) }
 {
     match of {
         Some(of) => Ok(Some(zeros_of(alloc, &of, names)?)),
@@ -86,7 +86,7 @@ fn check_parameter(
     env: &mut Env,
     parameter: &Parameter,
 ) -> Result<Option<Vec<GoType>>, ExprError>
-    ensures answer { Answered (all_of type_of) result (parameter_at (context_of context.entry) (parameter_of parameter.now) (env_of env.old)) }
+    ensures answer { Answered (all_of go_type) result (parameter_at (context_of context.entry) (parameter_of parameter.now) (env_of env.old)) }
     ensures after { OnOk result (env_of env.new ≡ (parameter_at (context_of context.entry) (parameter_of parameter.now) (env_of env.old)).after) }
 {
     check_names(alloc, env, &parameter.names)?;
@@ -100,7 +100,7 @@ fn with_types(
     known: Option<Vec<GoType>>,
     more: Option<Vec<GoType>>,
 ) -> Result<Option<Vec<GoType>>, AllocError>
-    ensures { IfOk result (λ all. option_map (all_of type_of) all ≡ joined (option_map (all_of type_of) known) (option_map (all_of type_of) more)) }
+    ensures { IfOk result (λ all. option_map (all_of go_type) all ≡ chained (option_map (all_of go_type) known) (option_map (all_of go_type) more)) }
 {
     match (known, more) {
         (Some(mut all), Some(mut more)) => {
@@ -118,7 +118,7 @@ fn check_parameters(
     env: &mut Env,
     parameters: &[Parameter],
 ) -> Result<Option<Vec<GoType>>, ExprError>
-    ensures answer { Answered (all_of type_of) result (parameters_at (context_of context.entry) (map parameter_of parameters.now) (env_of env.old)) }
+    ensures answer { Answered (all_of go_type) result (parameters_at (context_of context.entry) (map parameter_of parameters.now) (env_of env.old)) }
     ensures after { OnOk result (env_of env.new ≡ (parameters_at (context_of context.entry) (map parameter_of parameters.now) (env_of env.old)).after) }
 {
     let mut known = Some(Vec::new(alloc));
@@ -136,7 +136,7 @@ fn check_results(
     results: &[TypeExpr],
 ) -> Result<Vec<Option<GoType>>, ExprError>
     ensures faults { Finds result (flat_map (type_faults (scope_in (context_of context.entry) None nothing)) (map type_tree results.now)) }
-    ensures types { IfOk result (λ ts. map (option_map type_of) ts.items ≡ result_types (context_of context.entry) (map type_tree results.now)) }
+    ensures types { IfOk result (λ ts. map (option_map go_type) ts.items ≡ result_types (context_of context.entry) (map type_tree results.now)) }
 {
     let scope = context.outside();
     let mut all = Vec::with_capacity(alloc, results.len())?;
@@ -148,7 +148,7 @@ fn check_results(
 
 /// Some types, where all are known.
 fn all_types(alloc: Global, types: Vec<Option<GoType>>) -> Result<Option<Vec<GoType>>, AllocError>
-    ensures { IfOk result (λ all. option_map (all_of type_of) all ≡ all_some (map (option_map type_of) types.items)) }
+    ensures { IfOk result (λ all. option_map (all_of go_type) all ≡ all_some (map (option_map go_type) types.items)) }
 {
     let mut all = Vec::with_capacity(alloc, types.len())?;
     for of in types {
@@ -166,7 +166,7 @@ fn known_inside(
     types: Vec<Option<GoType>>,
     statements: Option<Vec<TypedStmt>>,
 ) -> Result<Option<Inside>, AllocError>
-    ensures { IfOk result (λ i. option_map inside_of i ≡ both (all_some (map (option_map type_of) types.items)) (option_map typed_in statements)) }
+    ensures { IfOk result (λ i. option_map inside_of i ≡ both (all_some (map (option_map go_type) types.items)) (option_map typed_in statements)) }
 {
     match (all_types(alloc, types)?, statements) {
         (Some(results), Some(statements)) => Ok(Some(Inside {
@@ -202,7 +202,7 @@ fn ended(
     parameters: Option<Vec<GoType>>,
     inside: Option<Inside>,
 ) -> Result<Option<Parts>, ExprError>
-    ensures { AnswersAt parts_of result end (asked whole (both (option_map (all_of type_of) parameters) (option_map inside_of inside))) }
+    ensures { AnswersAt parts_view result end (asked whole_function (both (option_map (all_of go_type) parameters) (option_map inside_of inside))) }
 {
     match (parameters, inside) {
         (Some(parameters), Some(inside)) => {
@@ -226,7 +226,7 @@ fn behind(types: Vec<GoType>, count: usize) -> Result<Vec<GoType>, AllocError>
 
 /// The types of the local variables that are no parameters.
 fn locals_of(types: Vec<GoType>, parameters: &[GoType]) -> Result<Vec<GoType>, AllocError>
-    ensures { IfOk result (λ locals. map type_of locals.items ≡ drop (length (map type_of parameters.now)) (map type_of types.items)) }
+    ensures { IfOk result (λ locals. map go_type locals.items ≡ drop (length (map go_type parameters.now)) (map go_type types.items)) }
 {
     behind(types, parameters.len())
 }
@@ -239,7 +239,7 @@ fn function_of(
     types: Vec<GoType>,
 ) -> Result<Option<TypedFunction>, AllocError>
     ensures { IfOk result (λ f. option_map typed_function f ≡
-        option_map (function_of (function_tree function.now) (map type_of types.items)) (option_map parts_of parts)) }
+        option_map (function_from (function_tree function.now) (map go_type types.items)) (option_map parts_view parts)) }
 {
     let Some(Parts { parameters, inside }) = parts else {
         return Ok(None);

@@ -2,13 +2,13 @@
 ghost use Rattle.std.specs.Prelude.{◌≡◌, ◌++◌, IfOk, OnOk, map, option_map};
 ghost use Rattle.std.specs.List.{list_any};
 ghost use Rattle.go_ast.specs.Views.{block_of, exprs_in as exprs_trees, type_of as type_tree};
-ghost use Rattle.go_types.specs.Views.{type_of};
+ghost use Rattle.go_types.specs.Views.{go_type};
 ghost use Rattle.go_scope.specs.Names.{in_exprs, in_type, used};
 ghost use Rattle.go_uses.specs.Uses.{if_any};
-ghost use Rattle.go_expr.specs.Seen.{scope_of};
+ghost use Rattle.go_expr.specs.Views.{scope_of};
 ghost use Rattle.go_stmt.specs.Scopes.{scope_in};
-ghost use Rattle.go_stmt.specs.Statements.{is_unknown, is_hidden};
-ghost use Rattle.go_stmt.specs.Seen.{context_of, env_of};
+ghost use Rattle.go_stmt.specs.Statements.{is_unknown, is_unsure};
+ghost use Rattle.go_stmt.specs.Views.{context_of, env_of};
 
 use crate::context::Context;
 use crate::env::Env;
@@ -87,7 +87,7 @@ pub(crate) fn is_hidden(
     body: &Block,
 ) -> Result<bool, AllocError>
     ensures { let s = scope_in (context_of context.entry) None (env_of env.now) in
-        IfOk result (λ b. b ≡ is_hidden s name.now (option_map type_of of.now) (block_of body.now)) }
+        IfOk result (λ b. b ≡ is_unsure s name.now (option_map go_type of.now) (block_of body.now)) }
 {
     if of.is_some() {
         return Ok(false);

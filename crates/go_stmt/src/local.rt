@@ -3,10 +3,10 @@
 ghost use Rattle.std.specs.Prelude.{◌≡◌, OnOk};
 ghost use Rattle.go_ast.specs.Trees.{first_place};
 ghost use Rattle.go_ast.specs.Views.{exprs_in as exprs_trees, simple_of, if_boxed, decl_of};
-ghost use Rattle.go_typed.specs.Views.{stmt_of};
+ghost use Rattle.go_typed.specs.Views.{as_stmt};
 ghost use Rattle.go_stmt.specs.Scopes.{single};
 ghost use Rattle.go_stmt.specs.Statements.{begins_at, simple_at, optional_at, declaration_at};
-ghost use Rattle.go_stmt.specs.Seen.{context_of, env_of, typed_in, Answered};
+ghost use Rattle.go_stmt.specs.Views.{context_of, env_of, typed_in, Answered};
 
 use crate::assignment::{check_assignment, check_update};
 use crate::constants::check_group;
@@ -33,7 +33,7 @@ fn check_simple(
     place: Place,
     simple: &Simple,
 ) -> Result<Option<TypedStmt>, ExprError>
-    ensures answer { Answered stmt_of result (simple_at (context_of context.entry) place (simple_of simple.now) (env_of env.old)) }
+    ensures answer { Answered as_stmt result (simple_at (context_of context.entry) place (simple_of simple.now) (env_of env.old)) }
     ensures after { OnOk result (env_of env.new ≡ (simple_at (context_of context.entry) place (simple_of simple.now) (env_of env.old)).after) }
 {
     match simple {

@@ -4,8 +4,8 @@ ghost use Rattle.std.specs.List.{list_any};
 ghost use Rattle.std.specs.Str.{bytes_eq};
 ghost use Rattle.go_stmt.specs.Rules.{differ};
 ghost use Rattle.go_stmt.specs.Scopes.{own};
-ghost use Rattle.go_stmt.specs.Statements.{names_faults, place_at};
-ghost use Rattle.go_stmt.specs.Seen.{env_of, own_texts, Finds};
+ghost use Rattle.go_stmt.specs.Statements.{names_faults, place_of_first};
+ghost use Rattle.go_stmt.specs.Views.{env_of, own_texts, Finds};
 
 use crate::env::Env;
 use go_ast::name::Name;
@@ -63,7 +63,7 @@ pub(crate) fn check_names(alloc: Global, env: &Env, names: &[Name]) -> Result<()
 
 /// The place of a declaration at a place: that of its first name.
 pub(crate) fn place_at(place: Place, names: &[Name]) -> Place
-    ensures { result ≡ place_at place names.now }
+    ensures { result ≡ place_of_first place names.now }
 {
     match names {
         [] => place,

@@ -3,12 +3,12 @@
 ghost use Rattle.std.specs.Prelude.{◌≡◌, [], Some, IfOk, map, unwrap_or};
 ghost use Rattle.std.specs.List.{zip};
 ghost use Rattle.std.specs.Option.{option_map};
-ghost use Rattle.go_types.specs.Views.{type_of};
-ghost use Rattle.go_typed.specs.Views.{expr_of, source_of};
-ghost use Rattle.go_expr.specs.Rules.{each_unless};
-ghost use Rattle.go_expr.specs.Seen.{all_of, Gives};
+ghost use Rattle.go_types.specs.Views.{go_type};
+ghost use Rattle.go_typed.specs.Views.{as_expr, as_source};
+ghost use Rattle.go_expr.specs.Rules.{fine_list};
+ghost use Rattle.go_expr.specs.Views.{all_of, Gives};
 ghost use Rattle.go_stmt.specs.Rules.{all_some, suited_if, suited_partly};
-ghost use Rattle.go_stmt.specs.Seen.{values_seen, due_seen};
+ghost use Rattle.go_stmt.specs.Views.{values_seen, due_seen};
 
 use crate::values::{Values, suit_one, suited};
 use go_expr::error::RuleError;
@@ -24,7 +24,7 @@ pub(crate) type Due = Option<Option<GoType>>;
 
 /// The type that is due, if one is.
 fn due_type(due: &Due) -> Result<Option<GoType>, AllocError>
-    ensures { IfOk result (λ t. option_map type_of t ≡ unwrap_or (due_seen due.now) None) }
+    ensures { IfOk result (λ t. option_map go_type t ≡ unwrap_or (due_seen due.now) None) }
 {
     match due {
         Some(Some(of)) => Ok(Some(of.copy()?)),
@@ -34,7 +34,7 @@ fn due_type(due: &Due) -> Result<Option<GoType>, AllocError>
 
 /// The types that are due, as far as they are known.
 fn due_types(alloc: Global, due: &[Due]) -> Result<Vec<Option<GoType>>, AllocError>
-    ensures { IfOk result (λ ts. map (option_map type_of) ts.items ≡ map (λ t. unwrap_or t None) (map due_seen due.now)) }
+    ensures { IfOk result (λ ts. map (option_map go_type) ts.items ≡ map (λ t. unwrap_or t None) (map due_seen due.now)) }
 {
     let mut all = Vec::with_capacity(alloc, due.len())?;
     for one in due {
@@ -48,7 +48,7 @@ pub(crate) fn known_due(
     alloc: Global,
     due: &[Due],
 ) -> Result<Option<Vec<Option<GoType>>>, AllocError>
-    ensures { IfOk result (λ ts. option_map (all_of (option_map type_of)) ts ≡ all_some (map due_seen due.now)) }
+    ensures { IfOk result (λ ts. option_map (all_of (option_map go_type)) ts ≡ all_some (map due_seen due.now)) }
 {
     let mut all = Vec::with_capacity(alloc, due.len())?;
     for one in due {
@@ -62,7 +62,7 @@ pub(crate) fn known_due(
 
 /// What is due for results, each where its type is known.
 pub(crate) fn dues(alloc: Global, types: &[Option<GoType>]) -> Result<Vec<Due>, AllocError>
-    ensures { IfOk result (λ due. map due_seen due.items ≡ map (option_map Some) (map (option_map type_of) types.now)) }
+    ensures { IfOk result (λ due. map due_seen due.items ≡ map (option_map Some) (map (option_map go_type) types.now)) }
 {
     let mut all = Vec::with_capacity(alloc, types.len())?;
     for of in types {
@@ -77,7 +77,7 @@ pub(crate) fn dues(alloc: Global, types: &[Option<GoType>]) -> Result<Vec<Due>, 
 
 /// A value as what is due for it, where that is known.
 fn suit_if(alloc: Global, due: &Due, value: TypedExpr) -> Result<TypedExpr, RuleError>
-    ensures { Gives expr_of result (suited_if (due_seen due.now, expr_of value)) }
+    ensures { Gives as_expr result (suited_if (due_seen due.now, as_expr value)) }
 {
     match due {
         Some(of) => suit_one(alloc, of, value),
@@ -91,7 +91,7 @@ fn suit_known(
     due: &[Due],
     values: Vec<TypedExpr>,
 ) -> Result<Vec<TypedExpr>, RuleError>
-    ensures { Gives (all_of expr_of) result (each_unless [] (map suited_if (zip (map due_seen due.now) (map expr_of values.items)))) }
+    ensures { Gives (all_of as_expr) result (fine_list [] (map suited_if (zip (map due_seen due.now) (map as_expr values.items)))) }
 {
     let mut all = Gathered::new(alloc, None);
     let mut i = 0;
@@ -112,7 +112,7 @@ pub(crate) fn suited_partly(
     due: &[Due],
     values: Values,
 ) -> Result<TypedSource, RuleError>
-    ensures { Gives source_of result (suited_partly (map due_seen due.now) (values_seen values)) }
+    ensures { Gives as_source result (suited_partly (map due_seen due.now) (values_seen values)) }
 {
     match values {
         Values::Separate(values) => {

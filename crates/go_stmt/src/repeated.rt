@@ -2,10 +2,10 @@
 //! [Constant declarations](https://go.dev/ref/spec#Constant_declarations)
 ghost use Rattle.std.specs.Prelude.{◌≡◌, ◌++◌, IfOk, map, option_map};
 ghost use Rattle.go_ast.specs.Views.{expr_of as expr_tree, exprs_in as exprs_trees, type_of as type_tree};
-ghost use Rattle.go_types.specs.Views.{type_of};
-ghost use Rattle.go_typed.specs.Views.{expr_of};
+ghost use Rattle.go_types.specs.Views.{go_type};
+ghost use Rattle.go_typed.specs.Views.{as_expr};
 ghost use Rattle.go_expr.specs.Rules.{fine, least};
-ghost use Rattle.go_expr.specs.Seen.{scope_of};
+ghost use Rattle.go_expr.specs.Views.{scope_of};
 ghost use Rattle.go_expr.specs.Verdicts.{verdict, operand, faults, operand_broken, type_verdict, type_faults};
 ghost use Rattle.go_stmt.specs.Statements.{first_fault, first_faults, written_faults};
 
@@ -72,7 +72,7 @@ pub(crate) fn known_type(
     scope: &Scope<'_>,
     of: &TypeExpr,
 ) -> Result<Option<GoType>, AllocError>
-    ensures { IfOk result (λ t. option_map type_of t ≡ fine (type_verdict (scope_of scope.now) (type_tree of.now))) }
+    ensures { IfOk result (λ t. option_map go_type t ≡ fine (type_verdict (scope_of scope.now) (type_tree of.now))) }
 {
     match check_type(alloc, scope, of) {
         Ok(of) => Ok(of),
@@ -87,7 +87,7 @@ pub(crate) fn known_value(
     scope: &Scope<'_>,
     value: &Expr,
 ) -> Result<Option<TypedExpr>, AllocError>
-    ensures { IfOk result (λ v. option_map expr_of v ≡ operand (verdict (scope_of scope.now) (expr_tree value.now))) }
+    ensures { IfOk result (λ v. option_map as_expr v ≡ operand (verdict (scope_of scope.now) (expr_tree value.now))) }
 {
     match check_operand(alloc, scope, value) {
         Ok(value) => Ok(value),

@@ -1,20 +1,20 @@
 //! Simple statements. [Simple statements](https://go.dev/ref/spec#Simple_statements)
 ghost use Rattle.std.specs.Prelude.{◌≡◌, IfOk, map, reverse};
 ghost use Rattle.std.specs.Option.{option_map};
-ghost use Rattle.go_types.specs.Views.{type_of};
+ghost use Rattle.go_types.specs.Views.{go_type};
 ghost use Rattle.go_typed.specs.Trees as typed;
 ghost use Rattle.go_types.specs.Types.{array};
 ghost use Rattle.go_types.specs.Relations.{underlying};
-ghost use Rattle.go_typed.specs.Views.{expr_of, left_of, steps_in, stmt_of};
+ghost use Rattle.go_typed.specs.Views.{as_expr, left_of, steps_in, as_stmt};
 ghost use Rattle.go_expr.specs.Known.{Verdict, declared, value};
 ghost use Rattle.go_expr.specs.Verdicts.{asked};
-ghost use Rattle.go_expr.specs.Seen.{known_of, all_of, Gives, AnswersAt};
-ghost use Rattle.go_stmt.specs.Rules.{stated, performed, left_to, left_side, is_left, is_array, all_some, stepped, updating};
+ghost use Rattle.go_expr.specs.Views.{known_of, all_of, Gives, AnswersAt};
+ghost use Rattle.go_stmt.specs.Rules.{stated, performed, left_to, left_side, is_left, is_array, all_some, inc_dec_verdict, updating};
 ghost use Rattle.go_ast.specs.Trees.{call_statement};
 ghost use Rattle.go_ast.specs.Views.{expr_of as expr_tree};
 ghost use Rattle.go_stmt.specs.Scopes.{node};
 ghost use Rattle.go_stmt.specs.Statements.{simple_at, value_at};
-ghost use Rattle.go_stmt.specs.Seen.{context_of, env_of, Answered};
+ghost use Rattle.go_stmt.specs.Views.{context_of, env_of, Answered};
 
 use crate::context::Context;
 use crate::control::check_value;
@@ -42,7 +42,7 @@ pub(crate) fn located(
     place: Place,
     given: Result<TypedStmt, RuleError>,
 ) -> Result<Option<TypedStmt>, ExprError>
-    ensures { (v : Verdict typed.Stmt) → Gives stmt_of given v → AnswersAt stmt_of result place v }
+    ensures { (v : Verdict typed.Stmt) → Gives as_stmt given v → AnswersAt as_stmt result place v }
 {
     match given {
         Ok(statement) => Ok(Some(statement)),
@@ -51,9 +51,9 @@ pub(crate) fn located(
 }
 
 /// A call of a function that has one result. `Mismatch` where it is no call.
-#[tactic(auto, using(go_typed::proofs::Rows::call_seen), unfolding(go_typed::specs::Views::expr_of, go_typed::specs::Views::stmt_of))]
+#[tactic(auto, using(go_typed::proofs::Rows::call_seen), unfolding(go_typed::specs::Views::as_expr, go_typed::specs::Views::as_stmt))]
 fn run_of(alloc: Global, call: TypedExpr) -> Result<TypedStmt, RuleError>
-    ensures { Gives stmt_of result (performed (declared (value (expr_of call)))) }
+    ensures { Gives as_stmt result (performed (declared (value (as_expr call)))) }
 {
     let TypedExpr { of, kind } = call;
     match kind {
@@ -77,13 +77,13 @@ fn stated<'a>(place: Place, known: Option<Known<'a>>) -> Result<Option<Known<'a>
 
 /// A call that stands as a statement at a place, where it is known. `Mismatch` where it is no call
 /// of a function, of panic or of Println.
-#[tactic(auto, unfolding(go_typed::specs::Views::stmt_of))]
+#[tactic(auto, unfolding(go_typed::specs::Views::as_stmt))]
 fn performed<'a>(
     alloc: Global,
     place: Place,
     known: Option<Known<'a>>,
 ) -> Result<Option<TypedStmt>, ExprError>
-    ensures { AnswersAt stmt_of result place (asked performed (option_map known_of known.entry)) }
+    ensures { AnswersAt as_stmt result place (asked performed (option_map known_of known.entry)) }
 {
     match known {
         None => Ok(None),
@@ -99,15 +99,15 @@ fn performed<'a>(
 }
 
 fn is_array(of: &GoType) -> bool
-    ensures { result ≡ is_array (type_of of.now) }
+    ensures { result ≡ is_array (go_type of.now) }
 {
     matches!(underlying(of), GoType::Array(_, _))
 }
 
 /// Whether a value names a part of a variable or of a slice, and no byte of a string.
-#[tactic(auto, unfolding(go_typed::specs::Views::expr_of))]
+#[tactic(auto, unfolding(go_typed::specs::Views::as_expr))]
 pub(crate) fn is_left(value: &TypedExpr) -> bool
-    ensures { result ≡ is_left (expr_of value.now) }
+    ensures { result ≡ is_left (as_expr value.now) }
 {
     match &value.kind {
         TypedExprKind::Local(_) | TypedExprKind::Global(_) => true,
@@ -124,9 +124,9 @@ pub(crate) fn is_left(value: &TypedExpr) -> bool
 
 /// The part of a variable or of a slice that a value names, in front of some steps, of which the last
 /// is the outermost; `None` where it names none.
-#[tactic(auto, unfolding(go_typed::specs::Views::expr_of))]
+#[tactic(auto, unfolding(go_typed::specs::Views::as_expr))]
 fn left_to(value: TypedExpr, steps: Vec<TypedStep>) -> Result<Option<TypedLeft>, AllocError>
-    ensures { IfOk result (λ l. option_map left_of l ≡ left_to (steps_in (reverse steps.items)) (expr_of value)) }
+    ensures { IfOk result (λ l. option_map left_of l ≡ left_to (steps_in (reverse steps.items)) (as_expr value)) }
 {
     let mut steps = steps;
     let TypedExpr { of, kind } = value;
@@ -161,7 +161,7 @@ fn left_to(value: TypedExpr, steps: Vec<TypedStep>) -> Result<Option<TypedLeft>,
 
 /// A left side of an assignment, by its operand; the blank one has none.
 fn left_side(alloc: Global, operand: Option<TypedExpr>) -> Result<Option<TypedLeft>, AllocError>
-    ensures { IfOk result (λ l. option_map left_of l ≡ left_side (option_map expr_of operand)) }
+    ensures { IfOk result (λ l. option_map left_of l ≡ left_side (option_map as_expr operand)) }
 {
     match operand {
         Some(operand) => left_to(operand, Vec::new(alloc)),
@@ -174,7 +174,7 @@ pub(crate) fn left_sides(
     alloc: Global,
     operands: Vec<Option<TypedExpr>>,
 ) -> Result<Option<Vec<TypedLeft>>, AllocError>
-    ensures { IfOk result (λ ls. option_map (all_of left_of) ls ≡ all_some (map left_side (map (option_map expr_of) operands.items))) }
+    ensures { IfOk result (λ ls. option_map (all_of left_of) ls ≡ all_some (map left_side (map (option_map as_expr) operands.items))) }
 {
     let mut all = Vec::with_capacity(alloc, operands.len())?;
     for operand in operands {
@@ -188,13 +188,13 @@ pub(crate) fn left_sides(
 
 /// A left side that gets one more or less. `Mismatch` where it is none, or no integer.
 /// [IncDec statements](https://go.dev/ref/spec#IncDec_statements)
-#[tactic(auto, unfolding(go_typed::specs::Views::stmt_of))]
+#[tactic(auto, unfolding(go_typed::specs::Views::as_stmt))]
 fn step_of(
     alloc: Global,
     operator: ArithmeticOperator,
     operand: TypedExpr,
 ) -> Result<TypedStmt, RuleError>
-    ensures { Gives stmt_of result (stepped operator (expr_of operand)) }
+    ensures { Gives as_stmt result (inc_dec_verdict operator (as_expr operand)) }
 {
     let of = type_in(&operand).copy()?;
     let one = constant(of.copy()?, Const::Integer(1));
@@ -214,7 +214,7 @@ fn stepped(
     operator: ArithmeticOperator,
     operand: Option<TypedExpr>,
 ) -> Result<Option<TypedStmt>, ExprError>
-    ensures { AnswersAt stmt_of result place (asked (stepped operator) (option_map expr_of operand)) }
+    ensures { AnswersAt as_stmt result place (asked (inc_dec_verdict operator) (option_map as_expr operand)) }
 {
     match operand {
         Some(operand) => located(place, step_of(alloc, operator, operand)),
@@ -231,7 +231,7 @@ pub(crate) fn check_step(
     operator: ArithmeticOperator,
     e: &Expr,
 ) -> Result<Option<TypedStmt>, ExprError>
-    ensures { Answered stmt_of result (node place (stepped operator) (value_at (context_of context.entry) (expr_tree e.now)) (env_of env.now)) }
+    ensures { Answered as_stmt result (node place (inc_dec_verdict operator) (value_at (context_of context.entry) (expr_tree e.now)) (env_of env.now)) }
 {
     let operand = check_value(alloc, context, env, e)?;
     stepped(alloc, place, operator, operand)
@@ -246,7 +246,7 @@ pub(crate) fn check_call(
     place: Place,
     e: &Expr,
 ) -> Result<Option<TypedStmt>, ExprError>
-    ensures { Answered stmt_of result (simple_at (context_of context.entry) place (call_statement (expr_tree e.now)) (env_of env.now)) }
+    ensures { Answered as_stmt result (simple_at (context_of context.entry) place (call_statement (expr_tree e.now)) (env_of env.now)) }
 {
     let known = check_expr(alloc, &env.scope(context, None), e)?;
     let known = stated(bare_place(e), known)?;
@@ -254,9 +254,9 @@ pub(crate) fn check_call(
 }
 
 /// An operator and an assignment to its left operand. `Mismatch` where that is no left side.
-#[tactic(auto, using(go_typed::proofs::Rows::binary_seen), unfolding(go_typed::specs::Views::expr_of, go_typed::specs::Views::stmt_of))]
+#[tactic(auto, using(go_typed::proofs::Rows::binary_seen), unfolding(go_typed::specs::Views::as_expr, go_typed::specs::Views::as_stmt))]
 pub(crate) fn updating(alloc: Global, operation: TypedExpr) -> Result<TypedStmt, RuleError>
-    ensures { Gives stmt_of result (updating (expr_of operation)) }
+    ensures { Gives as_stmt result (updating (as_expr operation)) }
 {
     let TypedExpr { of: _, kind } = operation;
     let TypedExprKind::Binary(operator, left, right) = kind else {

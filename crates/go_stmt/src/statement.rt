@@ -2,11 +2,11 @@
 ghost use Rattle.std.specs.Prelude.{◌≡◌, false, OnOk, option_map};
 ghost use Rattle.go_ast.specs.Trees.{block_statement};
 ghost use Rattle.go_ast.specs.Views.{stmt_of as stmt_tree, else_of, block_of, if_of};
-ghost use Rattle.go_types.specs.Views.{type_of};
-ghost use Rattle.go_typed.specs.Views.{clause_of as typed_clause};
-ghost use Rattle.go_stmt.specs.Statements.{begun, statement_at, if_at, else_at, block_at, list_at, clauses_at};
-ghost use Rattle.go_stmt.specs.Seen.{context_of, env_of, typed_in, trees_in, for_of as for_tree, range_of as range_tree, switch_of};
-ghost use Rattle.go_stmt.specs.Seen.{clauses_trees, clauses_of, clause_in, Answered};
+ghost use Rattle.go_types.specs.Views.{go_type};
+ghost use Rattle.go_typed.specs.Views.{as_clause as typed_clause};
+ghost use Rattle.go_stmt.specs.Statements.{block_context, statement_at, if_at, else_at, block_at, list_at, clauses_at};
+ghost use Rattle.go_stmt.specs.Views.{context_of, env_of, typed_in, trees_in, for_of as for_tree, range_of as range_tree, switch_of};
+ghost use Rattle.go_stmt.specs.Views.{clauses_trees, clauses_of, clause_in, Answered};
 
 use crate::context::Context;
 use crate::control::{
@@ -30,7 +30,7 @@ use std::alloc::Global;
 
 /// What a statement is.
 #[cycle(check)]
-#[tactic(auto, unfolding(go_ast::specs::Views::stmt_of, go_typed::specs::Views::stmt_of))]
+#[tactic(auto, unfolding(go_ast::specs::Views::stmt_of, go_typed::specs::Views::as_stmt))]
 fn check_statement(
     alloc: Global,
     context: Context<'_>,
@@ -161,9 +161,9 @@ fn check_clauses(
     tag: &Option<GoType>,
     clauses: &[Clause],
 ) -> Result<Option<Vec<TypedClause>>, ExprError>
-    ensures answer { let known = option_map type_of tag.now in
+    ensures answer { let known = option_map go_type tag.now in
         Answered clauses_of result (clauses_at (context_of context.entry) known false (clauses_trees clauses.now) (env_of env.old)) }
-    ensures after { let known = option_map type_of tag.now in
+    ensures after { let known = option_map go_type tag.now in
         OnOk result (env_of env.new ≡ (clauses_at (context_of context.entry) known false (clauses_trees clauses.now) (env_of env.old)).after) }
 {
     let mut known = Some(Vec::new(alloc));
@@ -188,8 +188,8 @@ fn check_clause(
     last: bool,
     s: &Clause,
 ) -> Result<Option<TypedClause>, ExprError>
-    ensures answer { Answered typed_clause result (clause_in (context_of context.entry) (option_map type_of tag.now) again last s.now (env_of env.old)) }
-    ensures after { let known = option_map type_of tag.now in
+    ensures answer { Answered typed_clause result (clause_in (context_of context.entry) (option_map go_type tag.now) again last s.now (env_of env.old)) }
+    ensures after { let known = option_map go_type tag.now in
         OnOk result (env_of env.new ≡ (clause_in (context_of context.entry) known again last s.now (env_of env.old)).after) }
 {
     env.enter()?;
@@ -259,8 +259,8 @@ pub(crate) fn check_list(
     env: &mut Env,
     statements: &[Stmt],
 ) -> Result<Option<Vec<TypedStmt>>, ExprError>
-    ensures answer { Answered typed_in result (list_at (begun (context_of context.entry)) (trees_in statements.now) (env_of env.old)) }
-    ensures after { OnOk result (env_of env.new ≡ (list_at (begun (context_of context.entry)) (trees_in statements.now) (env_of env.old)).after) }
+    ensures answer { Answered typed_in result (list_at (block_context (context_of context.entry)) (trees_in statements.now) (env_of env.old)) }
+    ensures after { OnOk result (env_of env.new ≡ (list_at (block_context (context_of context.entry)) (trees_in statements.now) (env_of env.old)).after) }
 {
     let mut known = Some(Vec::new(alloc));
     for (i, s) in statements.iter().enumerate() {

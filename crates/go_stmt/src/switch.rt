@@ -2,16 +2,16 @@
 //! [Expression switches](https://go.dev/ref/spec#Expression_switches)
 ghost use Rattle.std.specs.Prelude.{◌≡◌, ◌++◌, ◌∷◌, [], ◌&&◌, ◌||◌, false, not, is_some, IfOk, map, option_map};
 ghost use Rattle.go_ast.specs.Views.{expr_of as expr_tree, if_boxed};
-ghost use Rattle.go_types.specs.Views.{type_of};
+ghost use Rattle.go_types.specs.Views.{go_type};
 ghost use Rattle.go_typed.specs.Trees as typed;
 ghost use Rattle.go_typed.specs.Trees.{expr_type};
-ghost use Rattle.go_typed.specs.Views.{expr_of, stmt_of, clause_of as typed_clause, clauses_in};
-ghost use Rattle.go_expr.specs.Rules.{default_type, each_unless};
-ghost use Rattle.go_expr.specs.Verdicts.{asked, both, joined};
-ghost use Rattle.go_expr.specs.Seen.{all_of, Gives, AnswersAt};
-ghost use Rattle.go_stmt.specs.Rules.{case_value, clause_of, switched};
-ghost use Rattle.go_stmt.specs.Statements.{leads_on, is_last, tag_at, cases_at};
-ghost use Rattle.go_stmt.specs.Seen.{context_of, env_of, trees_in, typed_in, cases_tree, clauses_trees, clauses_of, Answered};
+ghost use Rattle.go_typed.specs.Views.{as_expr, as_stmt, as_clause as typed_clause, clauses_in};
+ghost use Rattle.go_expr.specs.Rules.{default_type, fine_list};
+ghost use Rattle.go_expr.specs.Verdicts.{asked, both, chained};
+ghost use Rattle.go_expr.specs.Views.{all_of, Gives, AnswersAt};
+ghost use Rattle.go_stmt.specs.Rules.{case_value, clause_verdict, switched};
+ghost use Rattle.go_stmt.specs.Statements.{leads_on, has_no_clauses, tag_at, cases_at};
+ghost use Rattle.go_stmt.specs.Views.{context_of, env_of, trees_in, typed_in, cases_tree, clauses_trees, clauses_of, Answered};
 
 use crate::context::{Context, all_empty};
 use crate::control::{check_value, located, with_last};
@@ -40,7 +40,7 @@ pub(crate) fn check_tag(
     env: &Env,
     tag: &Option<Box<Expr>>,
 ) -> Result<Option<TypedExpr>, ExprError>
-    ensures { Answered expr_of result (tag_at (context_of context.entry) (if_boxed expr_tree tag.now) (env_of env.now)) }
+    ensures { Answered as_expr result (tag_at (context_of context.entry) (if_boxed expr_tree tag.now) (env_of env.now)) }
 {
     match tag {
         Some(tag) => check_value(alloc, context, env, tag),
@@ -50,7 +50,7 @@ pub(crate) fn check_tag(
 
 /// The type that cases are compared as, where the tag is known.
 pub(crate) fn tag_type(tag: &Option<TypedExpr>) -> Result<Option<GoType>, AllocError>
-    ensures { IfOk result (λ t. option_map type_of t ≡ option_map (λ e. default_type (expr_type e)) (option_map expr_of tag.now)) }
+    ensures { IfOk result (λ t. option_map go_type t ≡ option_map (λ e. default_type (expr_type e)) (option_map as_expr tag.now)) }
 {
     match tag {
         Some(tag) => Ok(Some(default_type(type_in(tag))?)),
@@ -65,7 +65,7 @@ pub(crate) fn check_cases(
     env: &Env,
     cases: &Option<Vec<Expr>>,
 ) -> Result<Option<Option<Vec<TypedExpr>>>, ExprError>
-    ensures { Answered (option_map (all_of expr_of)) result (cases_at (context_of context.entry) (cases_tree cases.now) (env_of env.now)) }
+    ensures { Answered (option_map (all_of as_expr)) result (cases_at (context_of context.entry) (cases_tree cases.now) (env_of env.now)) }
 {
     match cases {
         Some(cases) => match check_operands(alloc, &env.scope(context, None), cases)? {
@@ -77,9 +77,9 @@ pub(crate) fn check_cases(
 }
 
 /// A variable of a type.
-#[tactic(auto, unfolding(go_typed::specs::Views::expr_of))]
+#[tactic(auto, unfolding(go_typed::specs::Views::as_expr))]
 fn variable_of(of: &GoType) -> Result<TypedExpr, AllocError>
-    ensures { IfOk result (λ e. expr_of e ≡ typed.local (type_of of.now) 0) }
+    ensures { IfOk result (λ e. as_expr e ≡ typed.local (go_type of.now) 0) }
 {
     Ok(TypedExpr {
         of: of.copy()?,
@@ -90,7 +90,7 @@ fn variable_of(of: &GoType) -> Result<TypedExpr, AllocError>
 /// A value of a case, as one of the type that it has in common with a variable of the tag's type.
 /// `Mismatch` where they have none, `Range` where it lies outside.
 fn case_value(alloc: Global, of: &GoType, value: TypedExpr) -> Result<TypedExpr, RuleError>
-    ensures { Gives expr_of result (case_value (type_of of.now) (expr_of value)) }
+    ensures { Gives as_expr result (case_value (go_type of.now) (as_expr value)) }
 {
     let equal = BinaryOperator::Comparison(ComparisonOperator::Equal);
     let variable = variable_of(of)?;
@@ -103,7 +103,7 @@ fn compare_each(
     of: &GoType,
     values: Vec<TypedExpr>,
 ) -> Result<Vec<TypedExpr>, RuleError>
-    ensures { Gives (all_of expr_of) result (each_unless [] (map (case_value (type_of of.now)) (map expr_of values.items))) }
+    ensures { Gives (all_of as_expr) result (fine_list [] (map (case_value (go_type of.now)) (map as_expr values.items))) }
 {
     let mut all = Gathered::new(alloc, None);
     for value in values {
@@ -121,7 +121,7 @@ fn case_at(
     values: Vec<TypedExpr>,
     body: Vec<TypedStmt>,
 ) -> Result<Option<TypedClause>, ExprError>
-    ensures { AnswersAt typed_clause result place (clause_of (option_map type_of tag.now) false falls (Some (map expr_of values.items)) (typed_in body)) }
+    ensures { AnswersAt typed_clause result place (clause_verdict (option_map go_type tag.now) false falls (Some (map as_expr values.items)) (typed_in body)) }
 {
     let Some(of) = tag else {
         return Ok(None);
@@ -143,7 +143,7 @@ fn default_at(
     falls: bool,
     body: Vec<TypedStmt>,
 ) -> Result<Option<TypedClause>, ExprError>
-    ensures { AnswersAt typed_clause result place (clause_of None again falls None (typed_in body)) }
+    ensures { AnswersAt typed_clause result place (clause_verdict None again falls None (typed_in body)) }
 {
     if again {
         return Err(ExprError::Faulty(place, FaultKind::Branch));
@@ -166,8 +166,8 @@ pub(crate) fn clause(
     body: Option<Vec<TypedStmt>>,
 ) -> Result<Option<TypedClause>, ExprError>
     ensures { AnswersAt typed_clause result place
-        (asked (λ k. clause_of (option_map type_of tag.now) again falls k.0 k.1)
-        (both (option_map (option_map (all_of expr_of)) values) (option_map typed_in body))) }
+        (asked (λ k. clause_verdict (option_map go_type tag.now) again falls k.0 k.1)
+        (both (option_map (option_map (all_of as_expr)) values) (option_map typed_in body))) }
 {
     match (values, body) {
         (Some(Some(values)), Some(body)) => case_at(alloc, place, tag, falls, values, body),
@@ -208,7 +208,7 @@ pub(crate) fn has_default(before: bool, clause: &Clause) -> bool
 
 /// Whether no clause stands behind another.
 pub(crate) fn is_last(others: &[Clause]) -> bool
-    ensures { result ≡ is_last (clauses_trees others.now) }
+    ensures { result ≡ has_no_clauses (clauses_trees others.now) }
 {
     match others {
         [] => true,
@@ -222,7 +222,7 @@ pub(crate) fn with_clause(
     more: Option<TypedClause>,
 ) -> Result<Option<Vec<TypedClause>>, AllocError>
     ensures { IfOk result (λ all. option_map clauses_of all ≡
-        joined (option_map clauses_of known) (option_map (λ c. c ∷ []) (option_map typed_clause more))) }
+        chained (option_map clauses_of known) (option_map (λ c. c ∷ []) (option_map typed_clause more))) }
 {
     match (known, more) {
         (Some(mut all), Some(clause)) => {
@@ -235,7 +235,7 @@ pub(crate) fn with_clause(
 
 #[tactic(auto, using(go_typed::proofs::StatementRows::switch_seen))]
 fn switch_over(tag: TypedExpr, clauses: Vec<TypedClause>) -> TypedStmt
-    ensures { stmt_of result ≡ typed.switch_statement (expr_of tag) (clauses_in clauses.items) }
+    ensures { as_stmt result ≡ typed.switch_statement (as_expr tag) (clauses_in clauses.items) }
 {
     TypedStmt::Switch(tag, clauses)
 }
@@ -248,7 +248,7 @@ fn switch_behind(
     tag: TypedExpr,
     clauses: Vec<TypedClause>,
 ) -> Result<Vec<TypedStmt>, RuleError>
-    ensures { Gives typed_in result (switched (typed_in before) (expr_of tag) (clauses_of clauses)) }
+    ensures { Gives typed_in result (switched (typed_in before) (as_expr tag) (clauses_of clauses)) }
 {
     let tag = defaulted(alloc, tag)?;
     Ok(with_last(before, switch_over(tag, clauses))?)
@@ -263,7 +263,7 @@ pub(crate) fn switched(
     clauses: Option<Vec<TypedClause>>,
 ) -> Result<Option<Vec<TypedStmt>>, ExprError>
     ensures { AnswersAt typed_in result place
-        (asked (λ k. switched k.0 (k.1).0 (k.1).1) (both (option_map typed_in before) (both (option_map expr_of tag) (option_map clauses_of clauses)))) }
+        (asked (λ k. switched k.0 (k.1).0 (k.1).1) (both (option_map typed_in before) (both (option_map as_expr tag) (option_map clauses_of clauses)))) }
 {
     match (before, tag, clauses) {
         (Some(before), Some(tag), Some(clauses)) => {

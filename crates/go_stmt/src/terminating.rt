@@ -1,7 +1,7 @@
 //! Which statements are terminating.
 //! [Terminating statements](https://go.dev/ref/spec#Terminating_statements)
 ghost use Rattle.std.specs.Prelude.{◌≡◌, ◌&&◌, not, is_some, option_map};
-ghost use Rattle.go_typed.specs.Views.{expr_of, stmt_of, stmts_in, clauses_in};
+ghost use Rattle.go_typed.specs.Views.{as_expr, as_stmt, stmts_in, clauses_in};
 ghost use Rattle.go_typed.specs.Terminating.{breaks, breaks_any, breaks_clause, has_default, terminates, list_terminates, clauses_terminate};
 
 use go_typed::expression::TypedExpr;
@@ -9,9 +9,9 @@ use go_typed::statement::{TypedClause, TypedStmt};
 
 /// Whether a break leaves the statement that this one stands in.
 #[cycle(leaves)]
-#[tactic(auto, unfolding(go_typed::specs::Views::stmt_of))]
+#[tactic(auto, unfolding(go_typed::specs::Views::as_stmt))]
 fn breaks(s: &TypedStmt) -> bool
-    ensures { result ≡ breaks (stmt_of s.now) }
+    ensures { result ≡ breaks (as_stmt s.now) }
 {
     match s {
         TypedStmt::If(_, first, second) => breaks_any(first) || breaks_any(second),
@@ -65,16 +65,16 @@ fn leads_through(clauses: &[TypedClause]) -> bool
 
 /// Whether a loop goes on for ever, unless its body returns or panics.
 fn runs_on(condition: &Option<TypedExpr>, statements: &[TypedStmt]) -> bool
-    ensures { result ≡ (not (is_some (option_map expr_of condition.now)) && not (breaks_any (stmts_in statements.now))) }
+    ensures { result ≡ (not (is_some (option_map as_expr condition.now)) && not (breaks_any (stmts_in statements.now))) }
 {
     condition.is_none() && !breaks_any(statements)
 }
 
 /// Whether a statement is terminating.
 #[cycle(terminates)]
-#[tactic(auto, unfolding(go_typed::specs::Views::stmt_of))]
+#[tactic(auto, unfolding(go_typed::specs::Views::as_stmt))]
 fn terminates(s: &TypedStmt) -> bool
-    ensures { result ≡ terminates (stmt_of s.now) }
+    ensures { result ≡ terminates (as_stmt s.now) }
 {
     match s {
         TypedStmt::Return(_) | TypedStmt::Panic(_) => true,

@@ -5,14 +5,14 @@ ghost use Rattle.std.specs.List.{zip, list_all};
 ghost use Rattle.std.specs.Option.{option_map};
 ghost use Rattle.go_ast.specs.Trees.{some_exprs, no_exprs};
 ghost use Rattle.go_ast.specs.Views.{expr_of as expr_tree, exprs_in as exprs_trees};
-ghost use Rattle.go_types.specs.Views.{type_of};
-ghost use Rattle.go_typed.specs.Views.{expr_of, source_of};
-ghost use Rattle.go_expr.specs.Rules.{settled_type, each_unless};
+ghost use Rattle.go_types.specs.Views.{go_type};
+ghost use Rattle.go_typed.specs.Views.{as_expr, as_source};
+ghost use Rattle.go_expr.specs.Rules.{settled_type, fine_list};
 ghost use Rattle.go_expr.specs.Verdicts.{operand, verdict, asked, bare_place};
-ghost use Rattle.go_expr.specs.Seen.{known_of, scope_of, all_of, Gives, AnswersAt};
+ghost use Rattle.go_expr.specs.Views.{known_of, scope_of, all_of, Gives, AnswersAt};
 ghost use Rattle.go_stmt.specs.Rules.{separate, values_of, all_some, suited_one, suited, takes};
 ghost use Rattle.go_stmt.specs.Statements.{each_of, operands_faults, alone_types, values_known, values_faults, value_types};
-ghost use Rattle.go_stmt.specs.Seen.{values_seen, Finds};
+ghost use Rattle.go_stmt.specs.Views.{values_seen, Finds};
 
 use crate::repeated::known_value;
 use go_ast::expression::Expr;
@@ -75,7 +75,7 @@ pub(crate) fn check_each(
     es: &[Expr],
 ) -> Result<Vec<Option<TypedExpr>>, ExprError>
     ensures faults { Finds result (operands_faults (scope_of scope.now) (exprs_trees es.now)) }
-    ensures values { IfOk result (λ vs. map (option_map expr_of) vs.items ≡ each_of (λ e. operand (verdict (scope_of scope.now) e)) (exprs_trees es.now)) }
+    ensures values { IfOk result (λ vs. map (option_map as_expr) vs.items ≡ each_of (λ e. operand (verdict (scope_of scope.now) e)) (exprs_trees es.now)) }
 {
     let mut all = Vec::with_capacity(alloc, es.len())?;
     for e in es {
@@ -90,7 +90,7 @@ pub(crate) fn known_values(
     scope: &Scope<'_>,
     es: &[Expr],
 ) -> Result<Vec<Option<TypedExpr>>, AllocError>
-    ensures { IfOk result (λ vs. map (option_map expr_of) vs.items ≡ each_of (λ e. operand (verdict (scope_of scope.now) e)) (exprs_trees es.now)) }
+    ensures { IfOk result (λ vs. map (option_map as_expr) vs.items ≡ each_of (λ e. operand (verdict (scope_of scope.now) e)) (exprs_trees es.now)) }
 {
     let mut all = Vec::with_capacity(alloc, es.len())?;
     for e in es {
@@ -104,7 +104,7 @@ pub(crate) fn all_known(
     alloc: Global,
     values: Vec<Option<TypedExpr>>,
 ) -> Result<Option<Vec<TypedExpr>>, AllocError>
-    ensures { IfOk result (λ all. option_map (all_of expr_of) all ≡ all_some (map (option_map expr_of) values.items)) }
+    ensures { IfOk result (λ all. option_map (all_of as_expr) all ≡ all_some (map (option_map as_expr) values.items)) }
 {
     let mut all = Vec::with_capacity(alloc, values.len())?;
     for value in values {
@@ -118,7 +118,7 @@ pub(crate) fn all_known(
 
 /// The type that a variable takes of a value, where that is known.
 fn type_by(value: &Option<TypedExpr>) -> Result<Option<GoType>, AllocError>
-    ensures { IfOk result (λ t. option_map type_of t ≡ option_and_then settled_type (option_map expr_of value.now)) }
+    ensures { IfOk result (λ t. option_map go_type t ≡ option_and_then settled_type (option_map as_expr value.now)) }
 {
     match value {
         Some(value) => settled_type(value),
@@ -127,7 +127,7 @@ fn type_by(value: &Option<TypedExpr>) -> Result<Option<GoType>, AllocError>
 }
 
 fn types_by(alloc: Global, values: &[Option<TypedExpr>]) -> Result<Vec<Option<GoType>>, AllocError>
-    ensures { IfOk result (λ ts. map (option_map type_of) ts.items ≡ map (option_and_then settled_type) (map (option_map expr_of) values.now)) }
+    ensures { IfOk result (λ ts. map (option_map go_type) ts.items ≡ map (option_and_then settled_type) (map (option_map as_expr) values.now)) }
 {
     let mut all = Vec::with_capacity(alloc, values.len())?;
     for value in values {
@@ -138,7 +138,7 @@ fn types_by(alloc: Global, values: &[Option<TypedExpr>]) -> Result<Vec<Option<Go
 
 /// The types that variables take of values.
 fn types_in(alloc: Global, values: &[TypedExpr]) -> Result<Vec<Option<GoType>>, AllocError>
-    ensures { IfOk result (λ ts. map (option_map type_of) ts.items ≡ map settled_type (map expr_of values.now)) }
+    ensures { IfOk result (λ ts. map (option_map go_type) ts.items ≡ map settled_type (map as_expr values.now)) }
 {
     let mut all = Vec::with_capacity(alloc, values.len())?;
     for value in values {
@@ -149,7 +149,7 @@ fn types_in(alloc: Global, values: &[TypedExpr]) -> Result<Vec<Option<GoType>>, 
 
 /// Types that are due.
 fn all_due(alloc: Global, types: &[GoType]) -> Result<Vec<Option<GoType>>, AllocError>
-    ensures { IfOk result (λ due. map (option_map type_of) due.items ≡ map Some (map type_of types.now)) }
+    ensures { IfOk result (λ due. map (option_map go_type) due.items ≡ map Some (map go_type types.now)) }
 {
     let mut all = Vec::with_capacity(alloc, types.len())?;
     for of in types {
@@ -160,7 +160,7 @@ fn all_due(alloc: Global, types: &[GoType]) -> Result<Vec<Option<GoType>>, Alloc
 
 /// The types of variables by what stands alone.
 fn alone_types(alloc: Global, values: &Option<Values>) -> Result<Vec<Option<GoType>>, AllocError>
-    ensures { IfOk result (λ ts. map (option_map type_of) ts.items ≡ alone_types (option_map values_seen values.now)) }
+    ensures { IfOk result (λ ts. map (option_map go_type) ts.items ≡ alone_types (option_map values_seen values.now)) }
 {
     match values {
         None => Ok(vec![in alloc; None]?),
@@ -173,7 +173,7 @@ fn alone_types(alloc: Global, values: &Option<Values>) -> Result<Vec<Option<GoTy
 /// What one expression is that stands alone.
 fn check_alone(alloc: Global, scope: &Scope<'_>, e: &Expr) -> Result<Valued, ExprError>
     ensures faults { Finds result (values_faults (scope_of scope.now) (some_exprs (expr_tree e.now) no_exprs)) }
-    ensures types { IfOk result (λ v. map (option_map type_of) v.types.items ≡ value_types (scope_of scope.now) (some_exprs (expr_tree e.now) no_exprs)) }
+    ensures types { IfOk result (λ v. map (option_map go_type) v.types.items ≡ value_types (scope_of scope.now) (some_exprs (expr_tree e.now) no_exprs)) }
     ensures known { IfOk result (λ v. option_map values_seen v.known ≡ values_known (scope_of scope.now) (some_exprs (expr_tree e.now) no_exprs)) }
 {
     let known = check_expr(alloc, scope, e)?;
@@ -186,7 +186,7 @@ fn check_alone(alloc: Global, scope: &Scope<'_>, e: &Expr) -> Result<Valued, Exp
 #[tactic(auto, using(crate::proofs::Several::each_mapped))]
 fn check_separate(alloc: Global, scope: &Scope<'_>, es: &[Expr]) -> Result<Valued, ExprError>
     ensures faults { Finds result (operands_faults (scope_of scope.now) (exprs_trees es.now)) }
-    ensures types { IfOk result (λ v. map (option_map type_of) v.types.items ≡
+    ensures types { IfOk result (λ v. map (option_map go_type) v.types.items ≡
         each_of (λ e. option_and_then settled_type (operand (verdict (scope_of scope.now) e))) (exprs_trees es.now)) }
     ensures known { IfOk result (λ v. option_map values_seen v.known ≡
         option_map separate (all_some (each_of (λ e. operand (verdict (scope_of scope.now) e)) (exprs_trees es.now)))) }
@@ -203,7 +203,7 @@ fn check_separate(alloc: Global, scope: &Scope<'_>, es: &[Expr]) -> Result<Value
 /// Values that stand together: each is one value, unless one call stands alone.
 pub fn check_values(alloc: Global, scope: &Scope<'_>, es: &[Expr]) -> Result<Valued, ExprError>
     ensures faults { Finds result (values_faults (scope_of scope.now) (exprs_trees es.now)) }
-    ensures types { IfOk result (λ v. map (option_map type_of) v.types.items ≡ value_types (scope_of scope.now) (exprs_trees es.now)) }
+    ensures types { IfOk result (λ v. map (option_map go_type) v.types.items ≡ value_types (scope_of scope.now) (exprs_trees es.now)) }
     ensures known { IfOk result (λ v. option_map values_seen v.known ≡ values_known (scope_of scope.now) (exprs_trees es.now)) }
 {
     match es {
@@ -219,7 +219,7 @@ pub(crate) fn suit_one(
     of: &Option<GoType>,
     value: TypedExpr,
 ) -> Result<TypedExpr, RuleError>
-    ensures { Gives expr_of result (suited_one (option_map type_of of.now, expr_of value)) }
+    ensures { Gives as_expr result (suited_one (option_map go_type of.now, as_expr value)) }
 {
     match of {
         Some(of) => assigned(alloc, of.copy()?, value),
@@ -232,7 +232,7 @@ fn suit_each(
     due: &[Option<GoType>],
     values: Vec<TypedExpr>,
 ) -> Result<Vec<TypedExpr>, RuleError>
-    ensures { Gives (all_of expr_of) result (each_unless [] (map suited_one (zip (map (option_map type_of) due.now) (map expr_of values.items)))) }
+    ensures { Gives (all_of as_expr) result (fine_list [] (map suited_one (zip (map (option_map go_type) due.now) (map as_expr values.items)))) }
 {
     let mut all = Gathered::new(alloc, None);
     let mut i = 0;
@@ -247,7 +247,7 @@ fn suit_each(
 }
 
 fn takes(due: &Option<GoType>, of: &GoType) -> bool
-    ensures { result ≡ takes (option_map type_of due.now, type_of of.now) }
+    ensures { result ≡ takes (option_map go_type due.now, go_type of.now) }
 {
     match due {
         Some(due) => assignable(of, due),
@@ -256,7 +256,7 @@ fn takes(due: &Option<GoType>, of: &GoType) -> bool
 }
 
 fn all_take(due: &[Option<GoType>], results: &[GoType]) -> bool
-    ensures { result ≡ list_all takes (zip (map (option_map type_of) due.now) (map type_of results.now)) }
+    ensures { result ≡ list_all takes (zip (map (option_map go_type) due.now) (map go_type results.now)) }
 {
     let mut rest = due;
     for of in results {
@@ -279,7 +279,7 @@ pub fn suited(
     due: &[Option<GoType>],
     values: Values,
 ) -> Result<TypedSource, RuleError>
-    ensures { Gives source_of result (suited (map (option_map type_of) due.now) (values_seen values)) }
+    ensures { Gives as_source result (suited (map (option_map go_type) due.now) (values_seen values)) }
 {
     match values {
         Values::Separate(values) => {

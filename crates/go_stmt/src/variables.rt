@@ -2,14 +2,14 @@
 ghost use Rattle.std.specs.Prelude.{◌≡◌, ◌∷◌, [], IfOk, OnOk, map};
 ghost use Rattle.std.specs.Option.{option_map};
 ghost use Rattle.go_ast.specs.Views.{var_of};
-ghost use Rattle.go_types.specs.Views.{type_of};
-ghost use Rattle.go_typed.specs.Views.{source_of, stmt_of};
+ghost use Rattle.go_types.specs.Views.{go_type};
+ghost use Rattle.go_typed.specs.Views.{as_source, as_stmt};
 ghost use Rattle.go_expr.specs.Verdicts.{asked, both};
-ghost use Rattle.go_expr.specs.Seen.{AnswersAt};
+ghost use Rattle.go_expr.specs.Views.{AnswersAt};
 ghost use Rattle.go_stmt.specs.Scopes.{scope_in, follow};
 ghost use Rattle.go_stmt.specs.Rules.{variables_source};
 ghost use Rattle.go_stmt.specs.Statements.{written_at, values_at, variable_types, variables_at, specs_at};
-ghost use Rattle.go_stmt.specs.Seen.{context_of, env_of, typed_in, values_seen, Answered, Finds};
+ghost use Rattle.go_stmt.specs.Views.{context_of, env_of, typed_in, values_seen, Answered, Finds};
 
 use crate::context::Context;
 use crate::control::joined;
@@ -48,9 +48,9 @@ fn check_parts(
     ensures faults { let s = scope_in (context_of context.entry) None (env_of env.now) in
         Finds result (follow (written_at s (var_of spec.now).type) (values_at (context_of context.entry) (var_of spec.now).values) (env_of env.now)).faults }
     ensures types { let s = scope_in (context_of context.entry) None (env_of env.now) in
-        IfOk result (λ p. map (option_map type_of) p.types.items ≡ variable_types s (var_of spec.now)) }
+        IfOk result (λ p. map (option_map go_type) p.types.items ≡ variable_types s (var_of spec.now)) }
     ensures written { let s = scope_in (context_of context.entry) None (env_of env.now) in
-        IfOk result (λ p. option_map (option_map type_of) p.written ≡ (written_at s (var_of spec.now).type (env_of env.now)).known) }
+        IfOk result (λ p. option_map (option_map go_type) p.written ≡ (written_at s (var_of spec.now).type (env_of env.now)).known) }
     ensures values { let values = values_at (context_of context.entry) (var_of spec.now).values (env_of env.now) in
         IfOk result (λ p. option_map values_seen p.values ≡ values.known) }
 {
@@ -82,8 +82,8 @@ fn source_at(
     written: Option<Option<GoType>>,
     values: Option<Values>,
 ) -> Result<Option<TypedSource>, ExprError>
-    ensures { AnswersAt source_of result place
-        (asked (λ k. variables_source names.now k.0 k.1) (both (option_map (option_map type_of) written) (option_map values_seen values))) }
+    ensures { AnswersAt as_source result place
+        (asked (λ k. variables_source names.now k.0 k.1) (both (option_map (option_map go_type) written) (option_map values_seen values))) }
 {
     let Some(of) = written else {
         return Ok(None);
@@ -99,7 +99,7 @@ pub(crate) fn single(
     alloc: Global,
     statement: Option<TypedStmt>,
 ) -> Result<Option<Vec<TypedStmt>>, AllocError>
-    ensures { IfOk result (λ list. option_map typed_in list ≡ option_map (λ s. s ∷ []) (option_map stmt_of statement)) }
+    ensures { IfOk result (λ list. option_map typed_in list ≡ option_map (λ s. s ∷ []) (option_map as_stmt statement)) }
 {
     match statement {
         Some(statement) => Ok(Some(vec![in alloc; statement]?)),

@@ -18,7 +18,7 @@ use Rattle.go_types.specs.Types.{Type'}
 use Rattle.go_code.specs.Operators as operators
 use Rattle.go_code.specs.Operators.{Operated}
 use Rattle.go_meaning.specs.Values.{Value, is_of, Step, read, updated}
-use Rattle.go_meaning.specs.Meaning.{Stored, World, given, changed}
+use Rattle.go_meaning.specs.Meaning.{Stored, ProgramState, typed_or_panic, or_panic}
 use Rattle.go_gen.specs.Translation.{Places}
 use Rattle.go_translation_laws.proofs.Frames.{read_row, write_row}
 use Rattle.go_translation_laws.proofs.Runs.{Onward, onward_given, held, here, Known, On}
@@ -40,19 +40,19 @@ stores_row all new first count o row stack long e =
     ∙ ap (option_map (λ r. record { cells = r; stack = stack })) e
 
 module _ (image : Image) (final : Final) (depth : ℕ) (code : List (Instr ℕ)) (callers : List Frame) (starts : List Start) (p : Places ℕ) where
-  abbrev Onto : ℕ → List (Instr ℕ) → List Cell → ℕ → List Cell → World → Type 0
+  abbrev Onto : ℕ → List (Instr ℕ) → List Cell → ℕ → List Cell → ProgramState → Type 0
   Onto t k front m stack w = On image final depth code callers starts p t k front m stack w
 
-  abbrev KnownIn : World → Type 0
+  abbrev KnownIn : ProgramState → Type 0
   KnownIn w = Known image final depth code callers starts p w
 
   -- what is known of the package variables may be used
-  pub on_known : (t : ℕ) (k : List (Instr ℕ)) (front : List Cell) (m : ℕ) (stack : List Cell) (w : World) → (KnownIn w → Onto t k front m stack w) → Onto t k front m stack w
+  pub on_known : (t : ℕ) (k : List (Instr ℕ)) (front : List Cell) (m : ℕ) (stack : List Cell) (w : ProgramState) → (KnownIn w → Onto t k front m stack w) → Onto t k front m stack w
   on_known t k front m stack w on known = on known known
 
   -- ---- the frame's cells
 
-  pub loads_at : (t first count o : ℕ) (row : List Cell) (k : List (Instr ℕ)) (front : List Cell) (m : ℕ) (stack : List Cell) (w : World) → Has front (first + o) row → length row ≡ count → Onto t k front m (stack ++ row) w → Onto t (On_cells (LoadAt first count) ∷ k) front m (stack ++ Int (pos o) ∷ []) w
+  pub loads_at : (t first count o : ℕ) (row : List Cell) (k : List (Instr ℕ)) (front : List Cell) (m : ℕ) (stack : List Cell) (w : ProgramState) → Has front (first + o) row → length row ≡ count → Onto t k front m (stack ++ row) w → Onto t (On_cells (LoadAt first count) ∷ k) front m (stack ++ Int (pos o) ∷ []) w
   loads_at t first count o row k front m stack w has long on known few place high size s =
       let shape : (has.before ++ (row ++ has.after)) ++ high ≡ has.before ++ (row ++ (has.after ++ high)) = simp append_assoc in
       let read : cells_at (front ++ high) (first + o) count ≡ Some row =
@@ -61,7 +61,7 @@ module _ (image : Image) (final : Final) (depth : ℕ) (code : List (Instr ℕ))
       (loads_row (front ++ high) first count o row stack read)
       (on known few (place + 1) high size (stands_next code place _ k s))
 
-  pub stores_at : (t first count o : ℕ) (before old row after : List Cell) (k : List (Instr ℕ)) (m : ℕ) (stack : List Cell) (w : World) → length before ≡ first + o → length row ≡ length old → length row ≡ count → Onto t k (before ++ (row ++ after)) m stack w → Onto t (On_cells (StoreAt first count) ∷ k) (before ++ (old ++ after)) m ((stack ++ row) ++ Int (pos o) ∷ []) w
+  pub stores_at : (t first count o : ℕ) (before old row after : List Cell) (k : List (Instr ℕ)) (m : ℕ) (stack : List Cell) (w : ProgramState) → length before ≡ first + o → length row ≡ length old → length row ≡ count → Onto t k (before ++ (row ++ after)) m stack w → Onto t (On_cells (StoreAt first count) ∷ k) (before ++ (old ++ after)) m ((stack ++ row) ++ Int (pos o) ∷ []) w
   stores_at t first count o before old row after k m stack w at same long on known few place high size s =
       let all : List Cell = (before ++ (old ++ after)) ++ high in
       let new : List Cell = (before ++ (row ++ after)) ++ high in
@@ -75,7 +75,7 @@ module _ (image : Image) (final : Final) (depth : ℕ) (code : List (Instr ℕ))
 
   -- ---- the package variables
 
-  pub global_loads_at : (t first count o : ℕ) (row : List Cell) (k : List (Instr ℕ)) (front : List Cell) (m : ℕ) (stack : List Cell) (w : World) → Has (held w.variables) (first + o) row → length row ≡ count → Onto t k front m (stack ++ row) w → Onto t (On_globals (LoadAt first count) ∷ k) front m (stack ++ Int (pos o) ∷ []) w
+  pub global_loads_at : (t first count o : ℕ) (row : List Cell) (k : List (Instr ℕ)) (front : List Cell) (m : ℕ) (stack : List Cell) (w : ProgramState) → Has (held w.variables) (first + o) row → length row ≡ count → Onto t k front m (stack ++ row) w → Onto t (On_globals (LoadAt first count) ∷ k) front m (stack ++ Int (pos o) ∷ []) w
   global_loads_at t first count o row k front m stack w has long on known few place high size s =
       let read : cells_at (held w.variables) (first + o) count ≡ Some row =
       ap (λ l. cells_at l (first + o) count) has.is ∙ read_row has.before row has.after (first + o) count has.place long in
@@ -83,7 +83,7 @@ module _ (image : Image) (final : Final) (depth : ℕ) (code : List (Instr ℕ))
       (loads_row (held w.variables) first count o row stack read)
       (on known few (place + 1) high size (stands_next code place _ k s))
 
-  pub global_stores_at : (t first count o : ℕ) (before old row after : List Cell) (variables : List Stored) (k : List (Instr ℕ)) (front : List Cell) (m : ℕ) (stack : List Cell) (w : World) → held w.variables ≡ before ++ (old ++ after) → held variables ≡ before ++ (row ++ after) → length before ≡ first + o → length row ≡ length old → length row ≡ count → KnownIn (record w { variables = variables }) → Onto t k front m stack (record w { variables = variables }) → Onto t (On_globals (StoreAt first count) ∷ k) front m ((stack ++ row) ++ Int (pos o) ∷ []) w
+  pub global_stores_at : (t first count o : ℕ) (before old row after : List Cell) (variables : List Stored) (k : List (Instr ℕ)) (front : List Cell) (m : ℕ) (stack : List Cell) (w : ProgramState) → held w.variables ≡ before ++ (old ++ after) → held variables ≡ before ++ (row ++ after) → length before ≡ first + o → length row ≡ length old → length row ≡ count → KnownIn (record w { variables = variables }) → Onto t k front m stack (record w { variables = variables }) → Onto t (On_globals (StoreAt first count) ∷ k) front m ((stack ++ row) ++ Int (pos o) ∷ []) w
   global_stores_at t first count o before old row after variables k front m stack w was is at same long sound on known few place high size s =
       let write : cells_with (held w.variables) (first + o) row ≡ Some (held variables) =
       ap (λ l. cells_with l (first + o) row) was ∙ write_row before old row after (first + o) at same ∙ ap Some (sym is) in
@@ -94,12 +94,12 @@ module _ (image : Image) (final : Final) (depth : ℕ) (code : List (Instr ℕ))
   -- ---- parts
 
   -- what is behind a value that is read, and behind one that is updated
-  pub reach_given : (P : Value → World → Type 0) (Q : ℕ → Type 0) (of : Type') (ss : List Step) (v : Value) (w : World) (r : Operated Value) → Onward final P (given of r w) → ((x : Value) (o : ℕ) → Led ss v x o → is_of of x ≡ true → P x w → Q o) → Reach image final depth code callers starts p Q ss v w r
+  pub reach_given : (P : Value → ProgramState → Type 0) (Q : ℕ → Type 0) (of : Type') (ss : List Step) (v : Value) (w : ProgramState) (r : Operated Value) → Onward final P (typed_or_panic of r w) → ((x : Value) (o : ℕ) → Led ss v x o → is_of of x ≡ true → P x w → Q o) → Reach image final depth code callers starts p Q ss v w r
   reach_given P Q of ss v w (operators.Gives x) h f = λ o led. let g = onward_given final P of x w h in f x o led g.0 g.1
   reach_given P Q of ss v w (operators.Panics kind) h f = h
   reach_given P Q of ss v w operators.Senseless h f = absurd h
 
-  pub reach_changed : (P : Value → World → Type 0) (Q : ℕ → Type 0) (ss : List Step) (v y : Value) (w : World) (r : Operated Value) → read ss v ≡ r → Onward final P (changed (updated ss v y) w) → ((x : Value) (o : ℕ) (led : Led ss v x o) → P (led.renewed y).new w → Q o) → Reach image final depth code callers starts p Q ss v w r
-  reach_changed P Q ss v y w (operators.Gives x) e h f = λ o led. f x o led (subst (λ r. Onward final P (changed r w)) (led.renewed y).is h)
-  reach_changed P Q ss v y w (operators.Panics kind) e h f = subst (λ r. Onward final P (changed r w)) (update_panics ss v y kind e) h
-  reach_changed P Q ss v y w operators.Senseless e h f = absurd (subst (λ r. Onward final P (changed r w)) (update_senseless ss v y e) h)
+  pub reach_changed : (P : Value → ProgramState → Type 0) (Q : ℕ → Type 0) (ss : List Step) (v y : Value) (w : ProgramState) (r : Operated Value) → read ss v ≡ r → Onward final P (or_panic (updated ss v y) w) → ((x : Value) (o : ℕ) (led : Led ss v x o) → P (led.renewed y).new w → Q o) → Reach image final depth code callers starts p Q ss v w r
+  reach_changed P Q ss v y w (operators.Gives x) e h f = λ o led. f x o led (subst (λ r. Onward final P (or_panic r w)) (led.renewed y).is h)
+  reach_changed P Q ss v y w (operators.Panics kind) e h f = subst (λ r. Onward final P (or_panic r w)) (update_panics ss v y kind e) h
+  reach_changed P Q ss v y w operators.Senseless e h f = absurd (subst (λ r. Onward final P (or_panic r w)) (update_senseless ss v y e) h)

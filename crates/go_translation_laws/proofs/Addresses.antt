@@ -27,7 +27,7 @@ use Rattle.go_typed.specs.Trees as trees
 use Rattle.go_typed.specs.Trees.{Expr}
 use Rattle.go_meaning.specs.Values.{Value, single, parts, flat, is_of, Step, to_field, to_element, part_of, read, if_gives}
 use Rattle.go_meaning.specs.Choices.{field_type, element_type}
-use Rattle.go_meaning.specs.Meaning.{World}
+use Rattle.go_meaning.specs.Meaning.{ProgramState}
 use Rattle.go_gen.specs.Translation.{Places, load, offset, field_offset, or_type, elements_count, expr_temps, steps_code, address_code}
 use Rattle.go_meaning_laws.proofs.Values.{flat_long}
 use Rattle.go_translation_laws.proofs.Shapes.{underlying_cells, underlying_values}
@@ -96,21 +96,21 @@ Kept t (trees.to_element e q) (to_field m ∷ ss) row = ⊥
 Kept t (trees.to_element e q) (to_element z ∷ ss) row = WithType (element_type (underlying t)) (λ u. Split (λ others. Kept u q ss others) (expr_temps e) z row)
 
 module _ (image : Image) (final : Final) (depth : ℕ) (code : List (Instr ℕ)) (callers : List Frame) (starts : List Start) (p : Places ℕ) where
-  abbrev Onto : ℕ → List (Instr ℕ) → List Cell → ℕ → List Cell → World → Type 0
+  abbrev Onto : ℕ → List (Instr ℕ) → List Cell → ℕ → List Cell → ProgramState → Type 0
   Onto t k front m stack w = On image final depth code callers starts p t k front m stack w
 
-  pub has_loads : (t at count : ℕ) (row : List Cell) (k : List (Instr ℕ)) (front : List Cell) (m : ℕ) (stack : List Cell) (w : World) → Has front at row → length row ≡ count → Onto t k front m (stack ++ row) w → Onto t (load at count ∷ k) front m stack w
+  pub has_loads : (t at count : ℕ) (row : List Cell) (k : List (Instr ℕ)) (front : List Cell) (m : ℕ) (stack : List Cell) (w : ProgramState) → Has front at row → length row ≡ count → Onto t k front m (stack ++ row) w → Onto t (load at count ∷ k) front m stack w
   has_loads t at count row k front m stack w has long on =
       on_front image final depth code callers starts p t (load at count ∷ k) (has.before ++ (row ++ has.after)) front m stack w (sym has.is)
       (loads image final depth code callers starts p t at count has.before row has.after k m stack w has.place long
       (on_front image final depth code callers starts p t k front (has.before ++ (row ++ has.after)) m (stack ++ row) w has.is on))
 
-  pub part_goes : (t : ℕ) (i : PartInstr) (row got : List Cell) (k : List (Instr ℕ)) (front : List Cell) (m : ℕ) (stack : List Cell) (w : World) → length row ≡ part_cells i → part i row ≡ operators.Gives got → Onto t k front m (stack ++ got) w → Onto t (On_part i ∷ k) front m (stack ++ row) w
+  pub part_goes : (t : ℕ) (i : PartInstr) (row got : List Cell) (k : List (Instr ℕ)) (front : List Cell) (m : ℕ) (stack : List Cell) (w : ProgramState) → length row ≡ part_cells i → part i row ≡ operators.Gives got → Onto t k front m (stack ++ got) w → Onto t (On_part i ∷ k) front m (stack ++ row) w
   part_goes t i row got k front m stack w long e on known few place high size s =
       part_leads image (here image final depth code callers starts p place (front ++ high) (stack ++ row) w) _ callers i stack row got final (record { frames = refl; rest = k; stands = s }) (record { is = refl; long = long }) e
       (on known few (place + 1) high size (stands_next code place _ k s))
 
-  pub part_stops : (t : ℕ) (i : PartInstr) (row : List Cell) (kind : PanicKind) (k : List (Instr ℕ)) (front : List Cell) (m : ℕ) (stack : List Cell) (w : World) → length row ≡ part_cells i → part i row ≡ operators.Panics kind → final ≡ Ends_with (Panicked kind) w.output → Onto t (On_part i ∷ k) front m (stack ++ row) w
+  pub part_stops : (t : ℕ) (i : PartInstr) (row : List Cell) (kind : PanicKind) (k : List (Instr ℕ)) (front : List Cell) (m : ℕ) (stack : List Cell) (w : ProgramState) → length row ≡ part_cells i → part i row ≡ operators.Panics kind → final ≡ Ends_with (Panicked kind) w.output → Onto t (On_part i ∷ k) front m (stack ++ row) w
   part_stops t i row kind k front m stack w long e over known few place high size s =
       subst (Leads image (here image final depth code callers starts p place (front ++ high) (stack ++ row) w)) (sym over)
       (part_panics image (here image final depth code callers starts p place (front ++ high) (stack ++ row) w) _ callers i stack row kind (record { frames = refl; rest = k; stands = s }) (record { is = refl; long = long }) e)
@@ -118,16 +118,16 @@ module _ (image : Image) (final : Final) (depth : ℕ) (code : List (Instr ℕ))
   -- ---- steps
 
   -- what is to hold of the offset of the part that steps lead to; where they panic this is the end
-  abbrev pub Reach : (ℕ → Type 0) → List Step → Value → World → Operated Value → Type 0
+  abbrev pub Reach : (ℕ → Type 0) → List Step → Value → ProgramState → Operated Value → Type 0
   Reach P ss v w (operators.Gives x) = (o : ℕ) → Led ss v x o → P o
   Reach P ss v w (operators.Panics kind) = final ≡ Ends_with (Panicked kind) w.output
   Reach P ss v w operators.Senseless = ⊥
 
   -- with an offset on the stack, from which the others count
-  abbrev pub From : ℕ → List (Instr ℕ) → List Cell → ℕ → List Cell → World → ℕ → List Step → Value → Operated Value → Type 0
+  abbrev pub From : ℕ → List (Instr ℕ) → List Cell → ℕ → List Cell → ProgramState → ℕ → List Step → Value → Operated Value → Type 0
   From t k front m stack w base ss v r = Reach (λ o. Onto t k front m (stack ++ Int (pos (base + o)) ∷ []) w) ss v w r
 
-  pub from_next : (t : ℕ) (k : List (Instr ℕ)) (front : List Cell) (m : ℕ) (stack : List Cell) (w : World) (base : ℕ) (s : Step) (ss : List Step) (u : Type') (v inner : Value) (at : ℕ) → part_of v s ≡ operators.Gives inner → Parted v s u inner at → (r : Operated Value) → From t k front m stack w base (s ∷ ss) v r → From t k front m stack w (base + at) ss inner r
+  pub from_next : (t : ℕ) (k : List (Instr ℕ)) (front : List Cell) (m : ℕ) (stack : List Cell) (w : ProgramState) (base : ℕ) (s : Step) (ss : List Step) (u : Type') (v inner : Value) (at : ℕ) → part_of v s ≡ operators.Gives inner → Parted v s u inner at → (r : Operated Value) → From t k front m stack w base (s ∷ ss) v r → From t k front m stack w (base + at) ss inner r
   from_next t k front m stack w base s ss u v inner at e one (operators.Gives x) h = λ o led.
       let same : base + (at + o) ≡ base + at + o = omega arith in
       on_stack image final depth code callers starts p t k front m _ _ w (ap (λ n. stack ++ Int (pos n) ∷ []) same) (h (at + o) (led_next s ss u v inner x at o e one led))
@@ -135,7 +135,7 @@ module _ (image : Image) (final : Final) (depth : ℕ) (code : List (Instr ℕ))
   from_next t k front m stack w base s ss u v inner at e one operators.Senseless h = absurd h
 
   -- one step, by an instruction that finds the part, and then the others
-  step_runs : (t : ℕ) (k : List (Instr ℕ)) (front : List Cell) (m : ℕ) (stack : List Cell) (w : World) (base : ℕ) (s : Step) (ss : List Step) (u : Type') (v : Value) (i : PartInstr) (row : List Cell) (behind : List (Instr ℕ)) → length row ≡ part_cells i → base + length (flat v) ≤ most_room → ((inner : Value) (base1 : ℕ) → is_of u inner ≡ true → base1 + cells u ≤ most_room → From t k front m stack w base1 ss inner (read ss inner) → Onto t behind front m (stack ++ Int (pos base1) ∷ []) w) → (o : Operated Value) → part_of v s ≡ o → Finds v s u base (part i row) o → From t k front m stack w base (s ∷ ss) v (if_gives o (read ss)) → Onto t (On_part i ∷ behind) front m (stack ++ row) w
+  step_runs : (t : ℕ) (k : List (Instr ℕ)) (front : List Cell) (m : ℕ) (stack : List Cell) (w : ProgramState) (base : ℕ) (s : Step) (ss : List Step) (u : Type') (v : Value) (i : PartInstr) (row : List Cell) (behind : List (Instr ℕ)) → length row ≡ part_cells i → base + length (flat v) ≤ most_room → ((inner : Value) (base1 : ℕ) → is_of u inner ≡ true → base1 + cells u ≤ most_room → From t k front m stack w base1 ss inner (read ss inner) → Onto t behind front m (stack ++ Int (pos base1) ∷ []) w) → (o : Operated Value) → part_of v s ≡ o → Finds v s u base (part i row) o → From t k front m stack w base (s ∷ ss) v (if_gives o (read ss)) → Onto t (On_part i ∷ behind) front m (stack ++ row) w
   step_runs t k front m stack w base s ss u v i row behind long small next (operators.Gives inner) e finds h =
       let at : ℕ = finds.at in
       let within : base + at + cells u ≤ most_room = omega (arith, small, part_within v s u inner at finds.parted) in
@@ -147,11 +147,11 @@ module _ (image : Image) (final : Final) (depth : ℕ) (code : List (Instr ℕ))
   -- what is behind the offset of the part is behind the code of these steps
   abbrev pub StepsRun : trees.Steps → Type 0
   StepsRun q =
-      (ss : List Step) (of : Type') (v : Value) (row : List Cell) (base at t : ℕ) (k : List (Instr ℕ)) (front : List Cell) (m : ℕ) (stack : List Cell) (w : World) →
+      (ss : List Step) (of : Type') (v : Value) (row : List Cell) (base at t : ℕ) (k : List (Instr ℕ)) (front : List Cell) (m : ℕ) (stack : List Cell) (w : ProgramState) →
       Has front at row → Kept of q ss row → is_of of v ≡ true → base + cells of ≤ most_room → From t k front m stack w base ss v (read ss v) →
       Onto t (steps_code of at q ++ k) front m (stack ++ Int (pos base) ∷ []) w
 
-  field_step : (n : ℕ) (q : trees.Steps) → StepsRun q → (s : Type') (ss : List Step) (of : Type') (v : Value) (row : List Cell) (base at t : ℕ) (k : List (Instr ℕ)) (front : List Cell) (m : ℕ) (stack : List Cell) (w : World) → Has front at row → (o : Option Type') → field_type s n ≡ o → WithType o (λ u. Kept u q ss row) → is_of s v ≡ true → base + cells s ≤ most_room → From t k front m stack w base (to_field n ∷ ss) v (read (to_field n ∷ ss) v) → Onto t (On_part (Move (offset s n)) ∷ (steps_code (or_type of o) at q ++ k)) front m (stack ++ Int (pos base) ∷ []) w
+  field_step : (n : ℕ) (q : trees.Steps) → StepsRun q → (s : Type') (ss : List Step) (of : Type') (v : Value) (row : List Cell) (base at t : ℕ) (k : List (Instr ℕ)) (front : List Cell) (m : ℕ) (stack : List Cell) (w : ProgramState) → Has front at row → (o : Option Type') → field_type s n ≡ o → WithType o (λ u. Kept u q ss row) → is_of s v ≡ true → base + cells s ≤ most_room → From t k front m stack w base (to_field n ∷ ss) v (read (to_field n ∷ ss) v) → Onto t (On_part (Move (offset s n)) ∷ (steps_code (or_type of o) at q ++ k)) front m (stack ++ Int (pos base) ∷ []) w
   field_step n q runs s ss of v row base at t k front m stack w has None found kept typed small h = absurd kept
   field_step n q runs (basic b) ss of v row base at t k front m stack w has (Some u) found kept typed small h = cc
   field_step n q runs (array c x) ss of v row base at t k front m stack w has (Some u) found kept typed small h = cc
@@ -163,7 +163,7 @@ module _ (image : Image) (final : Final) (depth : ℕ) (code : List (Instr ℕ))
       (λ inner base1 typed1 small1 h1. runs ss u inner row base1 at t k front m stack w has kept typed1 small1 h1)
       (part_of v (to_field n)) refl (field_finds fs n u v base typed found small (part_of v (to_field n)) refl) h
 
-  element_step : (e : Expr) (q : trees.Steps) → StepsRun q → (s : Type') (z : ℤ) (ss : List Step) (of : Type') (v : Value) (row : List Cell) (base at t : ℕ) (k : List (Instr ℕ)) (front : List Cell) (m : ℕ) (stack : List Cell) (w : World) → Has front at row → (o : Option Type') → element_type s ≡ o → WithType o (λ u. Split (λ others. Kept u q ss others) (expr_temps e) z row) → is_of s v ≡ true → base + cells s ≤ most_room → From t k front m stack w base (to_element z ∷ ss) v (read (to_element z ∷ ss) v) → Onto t (load (at + expr_temps e) 1 ∷ On_part (Index (elements_count s) (cells (or_type of o))) ∷ (steps_code (or_type of o) (at + expr_temps e + 1) q ++ k)) front m (stack ++ Int (pos base) ∷ []) w
+  element_step : (e : Expr) (q : trees.Steps) → StepsRun q → (s : Type') (z : ℤ) (ss : List Step) (of : Type') (v : Value) (row : List Cell) (base at t : ℕ) (k : List (Instr ℕ)) (front : List Cell) (m : ℕ) (stack : List Cell) (w : ProgramState) → Has front at row → (o : Option Type') → element_type s ≡ o → WithType o (λ u. Split (λ others. Kept u q ss others) (expr_temps e) z row) → is_of s v ≡ true → base + cells s ≤ most_room → From t k front m stack w base (to_element z ∷ ss) v (read (to_element z ∷ ss) v) → Onto t (load (at + expr_temps e) 1 ∷ On_part (Index (elements_count s) (cells (or_type of o))) ∷ (steps_code (or_type of o) (at + expr_temps e + 1) q ++ k)) front m (stack ++ Int (pos base) ∷ []) w
   element_step e q runs (basic b) z ss of v row base at t k front m stack w has None found kept typed small h = absurd kept
   element_step e q runs (basic b) z ss of v row base at t k front m stack w has (Some u) found kept typed small h = cc
   element_step e q runs (struct fs) z ss of v row base at t k front m stack w has None found kept typed small h = absurd kept
@@ -210,14 +210,14 @@ module _ (image : Image) (final : Final) (depth : ℕ) (code : List (Instr ℕ))
       let within : base + cells (underlying of) ≤ most_room = omega (arith, small, underlying_cells of) in
       element_step e q (steps_run q) (underlying of) z ss of v row base at t k front m stack w has (element_type (underlying of)) refl kept (underlying_values of v ∙ typed) within h
 
-  from_start : (t : ℕ) (k : List (Instr ℕ)) (front : List Cell) (m : ℕ) (stack : List Cell) (w : World) (ss : List Step) (v : Value) (r : Operated Value) → Reach (λ o. Onto t k front m (stack ++ Int (pos o) ∷ []) w) ss v w r → From t k front m stack w 0 ss v r
+  from_start : (t : ℕ) (k : List (Instr ℕ)) (front : List Cell) (m : ℕ) (stack : List Cell) (w : ProgramState) (ss : List Step) (v : Value) (r : Operated Value) → Reach (λ o. Onto t k front m (stack ++ Int (pos o) ∷ []) w) ss v w r → From t k front m stack w 0 ss v r
   from_start t k front m stack w ss v (operators.Gives x) h = λ o led.
       on_stack image final depth code callers starts p t k front m _ _ w (ap (λ n. stack ++ Int (pos n) ∷ []) (sym (zero-add o))) (h o led)
   from_start t k front m stack w ss v (operators.Panics kind) h = h
   from_start t k front m stack w ss v operators.Senseless h = absurd h
 
   -- the offset among a variable's cells comes on the stack
-  pub address_runs : (q : trees.Steps) (ss : List Step) (of : Type') (v : Value) (row : List Cell) (at t : ℕ) (k : List (Instr ℕ)) (front : List Cell) (m : ℕ) (stack : List Cell) (w : World) → Has front at row → Kept of q ss row → is_of of v ≡ true → cells of ≤ most_room → Reach (λ o. Onto t k front m (stack ++ Int (pos o) ∷ []) w) ss v w (read ss v) → Onto t (address_code of at q ++ k) front m stack w
+  pub address_runs : (q : trees.Steps) (ss : List Step) (of : Type') (v : Value) (row : List Cell) (at t : ℕ) (k : List (Instr ℕ)) (front : List Cell) (m : ℕ) (stack : List Cell) (w : ProgramState) → Has front at row → Kept of q ss row → is_of of v ≡ true → cells of ≤ most_room → Reach (λ o. Onto t k front m (stack ++ Int (pos o) ∷ []) w) ss v w (read ss v) → Onto t (address_code of at q ++ k) front m stack w
   address_runs q ss of v row at t k front m stack w has kept typed small h known few place high long s =
       let within : 0 + cells of ≤ most_room = omega (arith, small) in
       push_leads image (here image final depth code callers starts p place (front ++ high) stack w) _ callers (Int (pos 0)) (steps_code of at q ++ k) final refl s refl

@@ -13,10 +13,10 @@ use Rattle.go_code.specs.Images.{Image}
 use Rattle.go_code.specs.Machine.{Frame}
 use Rattle.go_typed.specs.declared.expression.Operator.{Operator}
 use Rattle.go_typed.specs.Trees as trees
-use Rattle.go_typed.specs.Trees.{Expr, Left, blank, of_local, of_global, of_slice, Source}
+use Rattle.go_typed.specs.Trees.{Expr, Left, blank, of_local, of_global, of_slice, ValueSource}
 use Rattle.go_meaning.specs.Values.{Value, flat, is_of}
 use Rattle.go_meaning.specs.Choices.{operated, binary_operators}
-use Rattle.go_meaning.specs.Meaning.{World, Stuck, Locals, Calls, Target, and_then, given, normal, eval, source, aim, aim_all, taken, give, give_all}
+use Rattle.go_meaning.specs.Meaning.{ProgramState, Stuck, Locals, Calls, Target, and_then, typed_or_panic, normal, eval, source, aim, aim_all, target_value, give, give_all}
 use Rattle.go_gen.specs.Translation.{Places, total, expr_temps, expr_code, operators_code, source_temps, source_counts, source_code, left_temps, left_operands, lefts_temps, lefts_operands, value_temps, values_temps, take_code, give_code, keep_code, keeps_code, gives_code}
 use Rattle.go_translation_laws.proofs.Frames.{together, types_of}
 use Rattle.go_meaning_laws.proofs.Values.{flat_long}
@@ -61,11 +61,11 @@ has_end : (low row : List Cell) → Has (low ++ row) (length low) row
 has_end low row = record { before = low; after = []; is = ap (λ l. low ++ l) (sym (append-nil row)); place = refl }
 
 module _ (image : Image) (final : Final) (depth : ℕ) (code : List (Instr ℕ)) (callers : List Frame) (starts : List Start) (p : Places ℕ) (types : List Type') where
-  abbrev Goes_on : ℕ → List (Instr ℕ) → Locals → List Cell → ℕ → List Cell → World → Type 0
+  abbrev Goes_on : ℕ → List (Instr ℕ) → Locals → List Cell → ℕ → List Cell → ProgramState → Type 0
   Goes_on t k locals low m stack w = Follows image final depth code callers starts p types t k locals low m stack w
 
   -- the value on top into its temporary, or away
-  keep_runs : (l : Left) (v : Value) (count t at : ℕ) (k : List (Instr ℕ)) (locals : Locals) (low : List Cell) (m : ℕ) (stack : List Cell) (w : World) → types_of locals ≡ types → total types + length low ≡ at → length (flat v) ≡ count → value_temps l count ≤ m → Goes_on t k locals (low ++ kept_value l v) (m - value_temps l count) stack w → Goes_on t (keep_code l count at ∷ k) locals low m (stack ++ flat v) w
+  keep_runs : (l : Left) (v : Value) (count t at : ℕ) (k : List (Instr ℕ)) (locals : Locals) (low : List Cell) (m : ℕ) (stack : List Cell) (w : ProgramState) → types_of locals ≡ types → total types + length low ≡ at → length (flat v) ≡ count → value_temps l count ≤ m → Goes_on t k locals (low ++ kept_value l v) (m - value_temps l count) stack w → Goes_on t (keep_code l count at ∷ k) locals low m (stack ++ flat v) w
   keep_runs blank v count t at k locals low m stack w same long size le on = λ rows fits.
       pops image final depth code callers starts p types t count (flat v) k (together rows ++ low) m stack w size (follows_same image final depth code callers starts p types t k locals low m stack w on rows fits)
   keep_runs (of_local u n q) v count t at k locals low m stack w same long size le on =
@@ -76,7 +76,7 @@ module _ (image : Image) (final : Final) (depth : ℕ) (code : List (Instr ℕ))
       follows_keeps image final depth code callers starts p types t at count (flat v) k locals low m stack w same long size le on
 
   -- all values, from the last to the first
-  keeps_run : (ls : List Left) (vs : List Value) (t at : ℕ) (k : List (Instr ℕ)) (locals : Locals) (low : List Cell) (m : ℕ) (stack : List Cell) (w : World) → types_of locals ≡ types → total types + length low ≡ at → length ls ≡ length vs → values_temps ls (lengths vs) ≤ m → Goes_on t k locals (low ++ kept_values ls vs) (m - values_temps ls (lengths vs)) stack w → Goes_on t (keeps_code ls (lengths vs) at ++ k) locals low m (stack ++ flat_map flat vs) w
+  keeps_run : (ls : List Left) (vs : List Value) (t at : ℕ) (k : List (Instr ℕ)) (locals : Locals) (low : List Cell) (m : ℕ) (stack : List Cell) (w : ProgramState) → types_of locals ≡ types → total types + length low ≡ at → length ls ≡ length vs → values_temps ls (lengths vs) ≤ m → Goes_on t k locals (low ++ kept_values ls vs) (m - values_temps ls (lengths vs)) stack w → Goes_on t (keeps_code ls (lengths vs) at ++ k) locals low m (stack ++ flat_map flat vs) w
   keeps_run [] [] t at k locals low m stack w same long count le on =
       follows_stack image final depth code callers starts p types t k locals low m stack (stack ++ []) w (sym (append-nil stack)) (follows_same image final depth code callers starts p types t k locals low m stack w on)
   keeps_run [] (v ∷ vs) t at k locals low m stack w same long count le on = absurd (omega (arith, count))
@@ -97,7 +97,7 @@ module _ (image : Image) (final : Final) (depth : ℕ) (code : List (Instr ℕ))
       (follows_room image final depth code callers starts p types t k locals (low ++ (kept_values ls vs ++ kept_value l v)) _ _ stack w room on)))))
 
   -- what was known of fewer temporaries in front
-  aside : (t : ℕ) (k : List (Instr ℕ)) (locals : Locals) (low a b c : List Cell) (m x y z : ℕ) (stack : List Cell) (w : World) → length a ≡ x → length b ≡ y → length c ≡ z → x + y + z ≤ m → Goes_on t k locals low m stack w → Goes_on t k locals (((low ++ a) ++ b) ++ c) (m - x - y - z) stack w
+  aside : (t : ℕ) (k : List (Instr ℕ)) (locals : Locals) (low a b c : List Cell) (m x y z : ℕ) (stack : List Cell) (w : ProgramState) → length a ≡ x → length b ≡ y → length c ≡ z → x + y + z ≤ m → Goes_on t k locals low m stack w → Goes_on t k locals (((low ++ a) ++ b) ++ c) (m - x - y - z) stack w
   aside t k locals low a b c m x y z stack w one two three le on =
       let first : x ≤ m = omega (arith, le) in
       let second : y ≤ m - x = omega (arith, le) in
@@ -108,7 +108,7 @@ module _ (image : Image) (final : Final) (depth : ℕ) (code : List (Instr ℕ))
 
   module _ (placed : Placed image final depth code callers starts p types) where
     -- then each goes into its left side, from the first to the last
-    gives_run : (ls : List Left) (targets : List Target) (vs : List Value) (row : List Cell) (at there t : ℕ) (k : List (Instr ℕ)) (locals : Locals) (low : List Cell) (m : ℕ) (stack : List Cell) (w : World) → types_of locals ≡ types → Has low at row → KeptLefts ls targets row → Has low there (kept_values ls vs) → Onward final (λ ls1 w1. types_of ls1 ≡ types → Goes_on t k ls1 low m stack w1) (give_all targets vs locals w) → Goes_on t (gives_code p (total types + at) ls (lengths vs) (total types + there) ++ k) locals low m stack w
+    gives_run : (ls : List Left) (targets : List Target) (vs : List Value) (row : List Cell) (at there t : ℕ) (k : List (Instr ℕ)) (locals : Locals) (low : List Cell) (m : ℕ) (stack : List Cell) (w : ProgramState) → types_of locals ≡ types → Has low at row → KeptLefts ls targets row → Has low there (kept_values ls vs) → Onward final (λ ls1 w1. types_of ls1 ≡ types → Goes_on t k ls1 low m stack w1) (give_all targets vs locals w) → Goes_on t (gives_code p (total types + at) ls (lengths vs) (total types + there) ++ k) locals low m stack w
     gives_run [] [] [] row at there t k locals low m stack w same has kept value h = h same
     gives_run [] [] (v ∷ vs) row at there t k locals low m stack w same has kept value h = absurd h
     gives_run [] (target ∷ targets) vs row at there t k locals low m stack w same has kept value h = absurd kept
@@ -132,7 +132,7 @@ module _ (image : Image) (final : Final) (depth : ℕ) (code : List (Instr ℕ))
         (onward_then final _ (give target v locals w) _ h)))
 
     -- behind the values of an assignment, d temporaries of theirs above those of the operands
-    assigned : (ls : List Left) (targets : List Target) (vs : List Value) (row : List Cell) (d at temps t : ℕ) (rest brk next : List (Instr ℕ)) (locals : Locals) (low : List Cell) (m : ℕ) (w : World) → types_of locals ≡ types → total types + length low ≡ at → at + lefts_temps ls + d ≡ temps → lefts_temps ls + d + values_temps ls (lengths vs) ≤ m → length row ≡ lefts_temps ls → KeptLefts ls targets row → (b : Bool) → nat_eq (length targets) (length vs) ≡ b → Onward final (After image final depth code callers starts p types t rest brk next low m) (if b then and_then (give_all targets vs locals w) normal else Stuck) → Goes_on t (keeps_code ls (lengths vs) temps ++ (gives_code p at ls (lengths vs) temps ++ rest)) locals (low ++ row) (m - lefts_temps ls) (flat_map flat vs) w
+    assigned : (ls : List Left) (targets : List Target) (vs : List Value) (row : List Cell) (d at temps t : ℕ) (rest brk next : List (Instr ℕ)) (locals : Locals) (low : List Cell) (m : ℕ) (w : ProgramState) → types_of locals ≡ types → total types + length low ≡ at → at + lefts_temps ls + d ≡ temps → lefts_temps ls + d + values_temps ls (lengths vs) ≤ m → length row ≡ lefts_temps ls → KeptLefts ls targets row → (b : Bool) → nat_eq (length targets) (length vs) ≡ b → Onward final (After image final depth code callers starts p types t rest brk next low m) (if b then and_then (give_all targets vs locals w) normal else Stuck) → Goes_on t (keeps_code ls (lengths vs) temps ++ (gives_code p at ls (lengths vs) temps ++ rest)) locals (low ++ row) (m - lefts_temps ls) (flat_map flat vs) w
     assigned ls targets vs row d at temps t rest brk next locals low m w same long there le size kept false e h = absurd h
     assigned ls targets vs row d at temps t rest brk next locals low m w same long there le size kept true e h =
         let n : ℕ = values_temps ls (lengths vs) in
@@ -153,7 +153,7 @@ module _ (image : Image) (final : Final) (depth : ℕ) (code : List (Instr ℕ))
 
     module _ (calls : Calls) (every : (e : Expr) → Runs image final depth code callers starts p calls e) where
       -- https://go.dev/ref/spec#Assignment_statements
-      pub assign_runs : (ls : List Left) (s : Source) → SourceRuns image final depth code callers starts p calls s → StmtRuns image final depth code callers starts p types calls (trees.assign ls s)
+      pub assign_runs : (ls : List Left) (s : ValueSource) → SourceRuns image final depth code callers starts p calls s → StmtRuns image final depth code callers starts p types calls (trees.assign ls s)
       assign_runs ls s runs t locals at b c rest brk next low m w same long le ends turns h =
           let values : ℕ = at + lefts_temps ls in
           let temps : ℕ = at + lefts_temps ls + source_temps s in
@@ -185,15 +185,15 @@ module _ (image : Image) (final : Final) (depth : ℕ) (code : List (Instr ℕ))
       value_room (of_global u s q) n = omega arith
       value_room (of_slice u e q) n = omega arith
 
-      operators_follow : (of : Type') (op : Operator) (s : Type') (x y : Value) (t : ℕ) (k : List (Instr ℕ)) (locals : Locals) (low : List Cell) (m : ℕ) (w : World) → Onward final (λ z w1. is_of of z ≡ true → Goes_on t k locals low m (flat z) w1) (given of (operated (binary_operators s op) (x ∷ y ∷ [])) w) → Goes_on t (operators_code (binary_operators s op) ++ k) locals low m (flat x ++ flat y) w
+      operators_follow : (of : Type') (op : Operator) (s : Type') (x y : Value) (t : ℕ) (k : List (Instr ℕ)) (locals : Locals) (low : List Cell) (m : ℕ) (w : ProgramState) → Onward final (λ z w1. is_of of z ≡ true → Goes_on t k locals low m (flat z) w1) (typed_or_panic of (operated (binary_operators s op) (x ∷ y ∷ [])) w) → Goes_on t (operators_code (binary_operators s op) ++ k) locals low m (flat x ++ flat y) w
       operators_follow of op s x y t k locals low m w h rows fits =
           let ops = binary_operators s op in
           on_stack image final depth code callers starts p t (operators_code ops ++ k) (together rows ++ low) m (flat x ++ (flat y ++ [])) (flat x ++ flat y) w (ap (λ l. flat x ++ l) (append-nil (flat y)))
           (operators_run image final depth code callers starts p t of ops (x ∷ y ∷ []) k (together rows ++ low) m [] w
-          (onward_map final _ _ (given of (operated ops (x ∷ y ∷ [])) w) (λ z w1 more typed. more typed rows fits) h))
+          (onward_map final _ _ (typed_or_panic of (operated ops (x ∷ y ∷ [])) w) (λ z w1 more typed. more typed rows fits) h))
 
       -- behind the new value, d temporaries of the operand above those of the left side
-      given_back : (l : Left) (target : Target) (z : Value) (row : List Cell) (d count at temp t : ℕ) (rest brk next : List (Instr ℕ)) (locals : Locals) (low : List Cell) (m : ℕ) (w : World) → types_of locals ≡ types → total types + length low ≡ at → at + left_temps l + d ≡ temp → left_temps l + d + count ≤ m → length row ≡ left_temps l → KeptLeft l target row → length (flat z) ≡ count → Onward final (After image final depth code callers starts p types t rest brk next low m) (and_then (give target z locals w) normal) → Goes_on t (keep_code l count temp ∷ (give_code p at l temp count ++ rest)) locals (low ++ row) (m - left_temps l) (flat z) w
+      given_back : (l : Left) (target : Target) (z : Value) (row : List Cell) (d count at temp t : ℕ) (rest brk next : List (Instr ℕ)) (locals : Locals) (low : List Cell) (m : ℕ) (w : ProgramState) → types_of locals ≡ types → total types + length low ≡ at → at + left_temps l + d ≡ temp → left_temps l + d + count ≤ m → length row ≡ left_temps l → KeptLeft l target row → length (flat z) ≡ count → Onward final (After image final depth code callers starts p types t rest brk next low m) (and_then (give target z locals w) normal) → Goes_on t (keep_code l count temp ∷ (give_code p at l temp count ++ rest)) locals (low ++ row) (m - left_temps l) (flat z) w
       given_back l target z row d count at temp t rest brk next locals low m w same long there le size kept counts h =
           let n : ℕ = value_temps l count in
           let within : d ≤ m - left_temps l = omega (arith, le) in
@@ -234,14 +234,14 @@ module _ (image : Image) (final : Final) (depth : ℕ) (code : List (Instr ℕ))
           let there : total types + length (low ++ row) ≡ at + left_temps l = omega (arith, long, size, length-append low row) in
           follows_as image final depth code callers starts p types t (take_code p (total types + length low) l n ++ right) _ locals (low ++ row) (m - d) [] w1 (ap (λ i. take_code p i l n ++ right) long)
           (take_runs image final depth code callers starts p types placed l target of row (length low) t right locals (low ++ row) (m - d) [] w1 same (has_end low row) kept
-          (onward_map final _ _ (taken of target locals w1)
+          (onward_map final _ _ (target_value of target locals w1)
           (λ x w2 most typed.
           expr_follows image final depth code callers starts p types placed calls e (every e) t locals value operate (low ++ row) (m - d) (flat x) w2 same there second
           (onward_map final _ _ (eval calls e locals w2)
           (λ y w3 other typed1. operators_follow of op (underlying of) x y t back locals (low ++ row) (m - d) w3
-          (onward_map final _ _ (given of (operated ops (x ∷ y ∷ [])) w3)
+          (onward_map final _ _ (typed_or_panic of (operated ops (x ∷ y ∷ [])) w3)
           (λ z w4 last typed2. given_back l target z row (expr_temps e) n at temp t rest brk next locals low m w4 same long refl room size kept (flat_long of z typed2) last)
-          (onward_then final _ (given of (operated ops (x ∷ y ∷ [])) w3) _ other)))
+          (onward_then final _ (typed_or_panic of (operated ops (x ∷ y ∷ [])) w3) _ other)))
           (onward_then final _ (eval calls e locals w2) _ most)))
-          (onward_then final _ (taken of target locals w1) _ more))))
+          (onward_then final _ (target_value of target locals w1) _ more))))
           (onward_then final _ (aim calls l locals w) _ h)))

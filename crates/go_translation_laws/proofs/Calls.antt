@@ -22,8 +22,8 @@ use Rattle.go_code.proofs.Follows.{return_leads, return_over, call_leads, call_c
 use Rattle.go_code.proofs.Stands.{stands_whole, stands_next}
 use Rattle.go_typed.specs.Trees.{Symbol, Stmts, Function, Package}
 use Rattle.go_meaning.specs.Values.{Value, flat, is_of, are_of}
-use Rattle.go_meaning.specs.Meaning.{Stored, World, Outcome, Ends, Stuck, Locals, Flow, Normal, Breaks, Continues, Returns, Calls, and_then, with_tick, exec_all}
-use Rattle.go_meaning.specs.Programs.{results_of, enter, with_arguments, first_locals, function_at, call_at}
+use Rattle.go_meaning.specs.Meaning.{Stored, ProgramState, Outcome, Ends, Stuck, Locals, Flow, Normal, Breaks, Continues, Returns, Calls, and_then, with_tick, exec_all}
+use Rattle.go_meaning.specs.Programs.{results_of, enter_function, with_arguments, first_locals, function_by_symbol, call_at}
 use Rattle.go_gen.specs.Translation.{Places, slots, total, stmts_temps, body_code, local_types, translated}
 use Rattle.go_translation_laws.proofs.Frames.{Fits, together, types_of}
 use Rattle.go_meaning_laws.proofs.Values.{flat_long}
@@ -111,7 +111,7 @@ opened_cells ts vs others temps e =
 -- ---- a function's body
 
 -- the end of a body gives nothing back
-falls_off : (image : Image) (final : Final) (depth : ℕ) (code : List (Instr ℕ)) (callers : List Frame) (starts : List Start) (p : Places ℕ) (types : List Type') (t : ℕ) (front : List Cell) (m : ℕ) (w : World) → Back image final depth code callers starts p types t [] w → On image final depth code callers starts p t (By_call (Return 0) ∷ []) front m [] w
+falls_off : (image : Image) (final : Final) (depth : ℕ) (code : List (Instr ℕ)) (callers : List Frame) (starts : List Start) (p : Places ℕ) (types : List Type') (t : ℕ) (front : List Cell) (m : ℕ) (w : ProgramState) → Back image final depth code callers starts p types t [] w → On image final depth code callers starts p t (By_call (Return 0) ∷ []) front m [] w
 falls_off image final depth code [] starts p types t front m w back known few place high long s =
     return_over image (here image final depth code [] starts p place (front ++ high) [] w) _ [] [] 0 [] final refl s refl refl (back known few)
 falls_off image final depth code (caller ∷ callers) starts p types t front m w back known few place high long s =
@@ -122,13 +122,13 @@ module _ (image : Image) (final : Final) (depth : ℕ) (code : List (Instr ℕ))
   end = By_call (Return 0) ∷ []
 
   -- no break and no continue leaves a body
-  flow_ends : (t m : ℕ) (flow : Flow) (w : World) → Onward final (λ vs w1. Back image final depth code callers starts p types t vs w1) (results_of flow w) → After image final depth code callers starts p types t end end end [] m flow w
+  flow_ends : (t m : ℕ) (flow : Flow) (w : ProgramState) → Onward final (λ vs w1. Back image final depth code callers starts p types t vs w1) (results_of flow w) → After image final depth code callers starts p types t end end end [] m flow w
   flow_ends t m (Normal ls) w h = λ same rows fits. falls_off image final depth code callers starts p types t (together rows ++ []) m w h
   flow_ends t m (Breaks ls) w h = absurd h
   flow_ends t m (Continues ls) w h = absurd h
   flow_ends t m (Returns vs) w h = h
 
-  pub body_follows : (calls : Calls) (body : Stmts) → StmtsRun image final depth code callers starts p types calls body → (t : ℕ) (locals : Locals) (m : ℕ) (w : World) → types_of locals ≡ types → stmts_temps body ≤ m → Onward final (λ vs w1. Back image final depth code callers starts p types t vs w1) (and_then (exec_all calls body locals w) results_of) → Follows image final depth code callers starts p types t (body_code p (total types) body) locals [] m [] w
+  pub body_follows : (calls : Calls) (body : Stmts) → StmtsRun image final depth code callers starts p types calls body → (t : ℕ) (locals : Locals) (m : ℕ) (w : ProgramState) → types_of locals ≡ types → stmts_temps body ≤ m → Onward final (λ vs w1. Back image final depth code callers starts p types t vs w1) (and_then (exec_all calls body locals w) results_of) → Follows image final depth code callers starts p types t (body_code p (total types) body) locals [] m [] w
   body_follows calls body runs t locals m w same le h =
       runs t locals (total types) 0 0 end end end [] m w same (omega arith) le (past_none end) (past_none end)
       (onward_map final _ _ (exec_all calls body locals w) (flow_ends t m) (onward_then final _ (exec_all calls body locals w) results_of h))
@@ -145,7 +145,7 @@ module _ (image : Image) (final : Final) (starts : List Start) (packages : List 
 
   -- the image has each function's code by its number
   abbrev pub Found : Type 0
-  Found = (s : Symbol) (f : Function) → function_at packages s ≡ Some f → slice_get image.functions (functions s) ≡ Some (translated globals functions f)
+  Found = (s : Symbol) (f : Function) → function_by_symbol packages s ≡ Some f → slice_get image.functions (functions s) ≡ Some (translated globals functions f)
 
   -- bodies are followed where calls are
   abbrev pub BodiesRun : Type 0
@@ -155,7 +155,7 @@ module _ (image : Image) (final : Final) (starts : List Start) (packages : List 
       StmtsRun image final depth code callers starts (local_places types) types calls body
 
   -- the machine follows a function's body from its first instruction
-  pub function_follows : BodiesRun → (calls : Calls) (f : Function) (depth : ℕ) (callers : List Frame) (vs : List Value) (t : ℕ) (w : World) →
+  pub function_follows : BodiesRun → (calls : Calls) (f : Function) (depth : ℕ) (callers : List Frame) (vs : List Value) (t : ℕ) (w : ProgramState) →
       AllCalled image final depth (translated globals functions f).code callers starts (local_places (local_types f)) calls →
       are_of f.parameters vs ≡ true → w.ticks ≤ t → Known image final depth (translated globals functions f).code callers starts (local_places (local_types f)) w →
       Onward final (λ rs w1. Back image final depth (translated globals functions f).code callers starts (local_places (local_types f)) (local_types f) t rs w1) (and_then (exec_all calls f.body (first_locals f vs) w) results_of) →
@@ -172,7 +172,7 @@ module _ (image : Image) (final : Final) (starts : List Start) (packages : List 
   -- ---- where a function is entered
 
   -- its arguments are on top of the stack
-  ready : Found → (s : Symbol) (f : Function) → function_at packages s ≡ Some f → (vs : List Value) → are_of f.parameters vs ≡ true → (stack : List Cell) → follows.Calls image (stack ++ flat_map flat vs) stack (flat_map flat vs) (functions s) (translated globals functions f)
+  ready : Found → (s : Symbol) (f : Function) → function_by_symbol packages s ≡ Some f → (vs : List Value) → are_of f.parameters vs ≡ true → (stack : List Cell) → follows.Calls image (stack ++ flat_map flat vs) stack (flat_map flat vs) (functions s) (translated globals functions f)
   ready found s f is vs typed stack =
       let fits : total f.parameters ≤ total (f.parameters ++ f.locals) + stmts_temps f.body = omega (arith, total_append f.parameters f.locals) in
       record { found = found s f is; top = refl; long = arguments_long f.parameters vs typed; fits = fits }
@@ -185,14 +185,14 @@ module _ (image : Image) (final : Final) (starts : List Start) (packages : List 
 
   module _ (found : Found) (bodies : BodiesRun) where
     module _ (depth : ℕ) (code : List (Instr ℕ)) (callers : List Frame) (at : ℕ → ℕ) where
-      abbrev Onto : ℕ → List (Instr ℕ) → List Cell → ℕ → List Cell → World → Type 0
+      abbrev Onto : ℕ → List (Instr ℕ) → List Cell → ℕ → List Cell → ProgramState → Type 0
       Onto t k front m stack w = On image final depth code callers starts (places at) t k front m stack w
 
-      abbrev world : ℕ → List Stored → List (List Value) → List ℕ → World
+      abbrev world : ℕ → List Stored → List (List Value) → List ℕ → ProgramState
       world ticks variables arrays output = record { ticks = ticks; variables = variables; arrays = arrays; output = output }
 
       -- with no more calls to be open it panics behind its tick
-      panics : depth + 0 ≡ most_open image.edition → (s : Symbol) (f : Function) → function_at packages s ≡ Some f → (vs : List Value) → are_of f.parameters vs ≡ true → (t : ℕ) (k : List (Instr ℕ)) (front : List Cell) (m : ℕ) (stack : List Cell) (ticks : ℕ) (variables : List Stored) (arrays : List (List Value)) (output : List ℕ) →
+      panics : depth + 0 ≡ most_open image.edition → (s : Symbol) (f : Function) → function_by_symbol packages s ≡ Some f → (vs : List Value) → are_of f.parameters vs ≡ true → (t : ℕ) (k : List (Instr ℕ)) (front : List Cell) (m : ℕ) (stack : List Cell) (ticks : ℕ) (variables : List Stored) (arrays : List (List Value)) (output : List ℕ) →
           Onward final (λ rs w1. Onto t k front m (stack ++ flat_map flat rs) w1) (with_tick (world ticks variables arrays output) (λ w1. Ends (Panicked Depth) w1.output)) →
           Onto t (By_call (Call (functions s)) ∷ k) front m (stack ++ flat_map flat vs) (world ticks variables arrays output)
       panics level s f is vs typed t k front m stack zero variables arrays output h known few place high long st =
@@ -206,7 +206,7 @@ module _ (image : Image) (final : Final) (starts : List Start) (packages : List 
           (call_deep image state _ callers stack (flat_map flat vs) (functions s) (translated globals functions f) k left refl st (ready found s f is vs typed stack) refl deep)
 
       -- else its body is followed
-      enters : (more : ℕ) → Within more → depth + suc more ≡ most_open image.edition → (s : Symbol) (f : Function) → function_at packages s ≡ Some f → (vs : List Value) → are_of f.parameters vs ≡ true → (t : ℕ) (k : List (Instr ℕ)) (front : List Cell) (m : ℕ) (stack : List Cell) (ticks : ℕ) (variables : List Stored) (arrays : List (List Value)) (output : List ℕ) →
+      enters : (more : ℕ) → Within more → depth + suc more ≡ most_open image.edition → (s : Symbol) (f : Function) → function_by_symbol packages s ≡ Some f → (vs : List Value) → are_of f.parameters vs ≡ true → (t : ℕ) (k : List (Instr ℕ)) (front : List Cell) (m : ℕ) (stack : List Cell) (ticks : ℕ) (variables : List Stored) (arrays : List (List Value)) (output : List ℕ) →
           Onward final (λ rs w1. Onto t k front m (stack ++ flat_map flat rs) w1) (with_tick (world ticks variables arrays output) (λ w1. and_then (exec_all (call_at packages more) f.body (first_locals f vs) w1) results_of)) →
           Onto t (By_call (Call (functions s)) ∷ k) front m (stack ++ flat_map flat vs) (world ticks variables arrays output)
       enters more called level s f is vs typed t k front m stack zero variables arrays output h known few place high long st =
@@ -225,7 +225,7 @@ module _ (image : Image) (final : Final) (starts : List Start) (packages : List 
           (onward_map final _ _ (and_then (exec_all (call_at packages more) f.body (first_locals f vs) (world left variables arrays output)) results_of)
           (λ rs w1 on known2 few2. on known2 (omega (arith, few, few2)) (place + 1) high long (stands_next code place _ k st)) h))
 
-    by_symbol : (run : List Value → Function → World → Outcome (List Value)) (s : Symbol) (o : Option Function) → function_at packages s ≡ o → (vs : List Value) (w : World) (Q : Outcome (List Value) → Type 0) (R : Type 0) → (Q Stuck → R) → ((f : Function) → function_at packages s ≡ Some f → are_of f.parameters vs ≡ true → Q (with_tick w (run vs f)) → R) → Q (enter o vs w (run vs)) → R
+    by_symbol : (run : List Value → Function → ProgramState → Outcome (List Value)) (s : Symbol) (o : Option Function) → function_by_symbol packages s ≡ o → (vs : List Value) (w : ProgramState) (Q : Outcome (List Value) → Type 0) (R : Type 0) → (Q Stuck → R) → ((f : Function) → function_by_symbol packages s ≡ Some f → are_of f.parameters vs ≡ true → Q (with_tick w (run vs f)) → R) → Q (enter_function o vs w (run vs)) → R
     by_symbol run s None is vs w Q R stuck go h = stuck h
     by_symbol run s (Some f) is vs w Q R stuck go h = by_test (are_of f.parameters vs) refl h
       where
@@ -235,25 +235,25 @@ module _ (image : Image) (final : Final) (starts : List Start) (packages : List 
 
     pub called_within : (left : ℕ) → Within left
     called_within zero depth code callers at level s t vs k front m stack w h =
-        by_symbol (λ arguments f w1. Ends (Panicked Depth) w1.output) s (function_at packages s) refl vs w (Onward final (λ rs w1. On image final depth code callers starts (places at) t k front m (stack ++ flat_map flat rs) w1)) _ (λ stuck. absurd stuck)
+        by_symbol (λ arguments f w1. Ends (Panicked Depth) w1.output) s (function_by_symbol packages s) refl vs w (Onward final (λ rs w1. On image final depth code callers starts (places at) t k front m (stack ++ flat_map flat rs) w1)) _ (λ stuck. absurd stuck)
         (λ f is typed more. panics depth code callers at level s f is vs typed t k front m stack w.ticks w.variables w.arrays w.output more) h
     called_within (suc left) depth code callers at level s t vs k front m stack w h =
-        by_symbol (λ arguments f w1. and_then (exec_all (call_at packages left) f.body (first_locals f arguments) w1) results_of) s (function_at packages s) refl vs w (Onward final (λ rs w1. On image final depth code callers starts (places at) t k front m (stack ++ flat_map flat rs) w1)) _ (λ stuck. absurd stuck)
+        by_symbol (λ arguments f w1. and_then (exec_all (call_at packages left) f.body (first_locals f arguments) w1) results_of) s (function_by_symbol packages s) refl vs w (Onward final (λ rs w1. On image final depth code callers starts (places at) t k front m (stack ++ flat_map flat rs) w1)) _ (λ stuck. absurd stuck)
         (λ f is typed more. enters depth code callers at left (called_within left) level s f is vs typed t k front m stack w.ticks w.variables w.arrays w.output more) h
 
 -- ---- bodies, for calls and for start steps
 
 module _ (image : Image) (final : Final) (packages : List Package) (globals : Symbol → ℕ) (functions : Symbol → ℕ) where
   -- the package variables lie where the code looks for them
-  abbrev pub Lies : World → Type 0
+  abbrev pub Lies : ProgramState → Type 0
   Lies w = Sized w.variables × ((s : Symbol) → globals s ≡ global_at w.variables s)
 
   -- between two instructions, or two start steps
-  abbrev pub state : List Frame → List Start → World → State
+  abbrev pub state : List Frame → List Start → ProgramState → State
   state frames starts w = record { frames = frames; starts = starts; globals = held w.variables; rows = held_rows w.arrays; ticks = w.ticks; output = w.output }
 
   -- a function that is entered, with so many calls open, so that n more may be
-  pub body_leads : ((s : Symbol) (f : Function) → function_at packages s ≡ Some f → slice_get image.functions (functions s) ≡ Some (translated globals functions f)) → ((starts : List Start) → BodiesRun image final starts packages globals functions) → (n depth : ℕ) → depth + n ≡ most_open image.edition → (t : ℕ) (callers : List Frame) (starts : List Start) (f : Function) (vs : List Value) (w : World) → are_of f.parameters vs ≡ true → Lies w → w.ticks ≤ t →
+  pub body_leads : ((s : Symbol) (f : Function) → function_by_symbol packages s ≡ Some f → slice_get image.functions (functions s) ≡ Some (translated globals functions f)) → ((starts : List Start) → BodiesRun image final starts packages globals functions) → (n depth : ℕ) → depth + n ≡ most_open image.edition → (t : ℕ) (callers : List Frame) (starts : List Start) (f : Function) (vs : List Value) (w : ProgramState) → are_of f.parameters vs ≡ true → Lies w → w.ticks ≤ t →
       Onward final (λ rs w1. Lies w1 → w1.ticks ≤ t → Leads image (state (back_in callers (flat_map flat rs)) starts w1) final) (and_then (exec_all (call_at packages n) f.body (first_locals f vs) w) results_of) →
       Leads image (state (opened depth (translated globals functions f).code (translated globals functions f).cells (flat_map flat vs) ∷ callers) starts w) final
   body_leads found bodies n depth level t callers starts f vs w typed lies few h =

@@ -18,7 +18,7 @@ use Rattle.go_typed.specs.declared.expression.Operator.TheVariants.{Arithmetic a
 use Rattle.go_typed.specs.Trees.{Expr, constant, local, index, binary, both, here, to_element, of_local, each, zeros, Stmt, no_stmts, define, assign, update, print, if_statement, for_statement, range_statement, switch_statement, break, continue, no_clauses, clause, pack_exprs, pack_stmts, Function, Package}
 use Rattle.go_meaning.specs.Meaning as meaning
 use Rattle.go_meaning.specs.Meaning.{Outcome}
-use Rattle.go_meaning.specs.Programs.{run}
+use Rattle.go_meaning.specs.Programs.{run_program}
 use Rattle.std.specs.Prelude.{⊤}
 use Rattle.go_gen.specs.Translation.{translated}
 
@@ -69,7 +69,7 @@ over meaning.Stuck = None
 
 -- within so many steps the machine comes to what the function main means
 abbrev Agrees : Function → ℕ → ℕ → Type 0
-Agrees f ticks steps = within (image_of f) steps (started (image_of f) ticks) ≡ over (run (package_of f) ticks)
+Agrees f ticks steps = within (image_of f) steps (started (image_of f) ticks) ≡ over (run_program (package_of f) ticks)
 
 -- var x [3]int; i := 0; i, x[i] = 1, 9; fmt.Println(i, x[0]); x[i], i = 5, 2; x[i+1] = 1
 abbrev tuples : Function

@@ -18,7 +18,7 @@ use Rattle.go_typed.specs.declared.expression.Operator.TheVariants.{Arithmetic a
 use Rattle.go_typed.specs.Trees.{Symbol, Expr, constant, local, global, call, here, of_global, each, assign, update, print, return, pack_exprs, pack_stmts, Variable, Package}
 use Rattle.go_meaning.specs.Meaning as meaning
 use Rattle.go_meaning.specs.Meaning.{Outcome}
-use Rattle.go_meaning.specs.Programs.{run}
+use Rattle.go_meaning.specs.Programs.{run_program}
 use Rattle.go_gen.specs.Translation.{object_of}
 
 abbrev int : Type'
@@ -101,7 +101,7 @@ over (meaning.Gives done w) = Some (Ends Ended w.output)
 over (meaning.Ends ending output) = Some (Ends ending output)
 over meaning.Stuck = None
 
-pub both_agree : within image 100 (started image 10) ≡ over (run both 10)
+pub both_agree : within image 100 (started image 10) ≡ over (run_program both 10)
 unfolding Rattle.go_meaning.specs.Meaning.most_cells Rattle.go_text.specs.Editions.most_open
 both_agree = refl
 
@@ -111,7 +111,7 @@ unfolding Rattle.std.specs.Fmt.digits Rattle.go_meaning.specs.Meaning.most_cells
 both_print = refl
 
 -- they are cut where both say so
-pub both_cut : within image 100 (started image 2) ≡ over (run both 2)
+pub both_cut : within image 100 (started image 2) ≡ over (run_program both 2)
 unfolding Rattle.go_meaning.specs.Meaning.most_cells Rattle.go_text.specs.Editions.most_open
 both_cut = refl
 

@@ -15,10 +15,10 @@ use Rattle.go_code.specs.declared.ending.Ending.TheVariants.{Ended, Cut}
 use Rattle.go_link.specs.declared.link.LinkError.TheVariants.{NameMissing}
 use Rattle.go_link.specs.Links.{link_refusal, linked}
 use Rattle.go_typed.specs.declared.expression.Operator.TheVariants.{Arithmetic as arithmetic}
-use Rattle.go_typed.specs.Trees.{Symbol, Expr, constant, global, binary, call, no_exprs, here, of_global, Source, each, results, Stmt, update, print, return, pack_exprs, pack_stmts, Function, Initialization, Package, Variable}
+use Rattle.go_typed.specs.Trees.{Symbol, Expr, constant, global, binary, call, no_exprs, here, of_global, ValueSource, each, results, Stmt, update, print, return, pack_exprs, pack_stmts, Function, Initialization, Package, Variable}
 use Rattle.go_meaning.specs.Meaning as meaning
 use Rattle.go_meaning.specs.Meaning.{Outcome}
-use Rattle.go_meaning.specs.Programs.{run}
+use Rattle.go_meaning.specs.Programs.{run_program}
 use Rattle.go_gen.specs.Translation.{object_of}
 
 abbrev int : Type'
@@ -39,7 +39,7 @@ g x = global int (in_app x)
 abbrev variable : List ℕ → Variable
 variable name = record { name = name; of = int; file = []; place = record { line = 1; column = 1 } }
 
-abbrev together : List (Option (List ℕ)) → Source → List (List ℕ) → Initialization
+abbrev together : List (Option (List ℕ)) → ValueSource → List (List ℕ) → Initialization
 together xs s rs = record { variables = xs; file = []; place = record { line = 1; column = 1 }; source = s; references = rs }
 
 abbrev set : List ℕ → Expr → List (List ℕ) → Initialization
@@ -118,7 +118,7 @@ over meaning.Stuck = None
 pub all_linked : link_refusal (map object_of all) ≡ None
 all_linked = refl
 
-pub all_agree : within image 200 (started image 5) ≡ over (run all 5)
+pub all_agree : within image 200 (started image 5) ≡ over (run_program all 5)
 unfolding Rattle.go_meaning.specs.Meaning.most_cells Rattle.go_text.specs.Editions.most_open
 all_agree = refl
 
@@ -131,7 +131,7 @@ pub all_cut : within image 200 (started image 4) ≡ Some (Ends Cut (codes "12" 
 unfolding Rattle.std.specs.Fmt.digits Rattle.go_meaning.specs.Meaning.most_cells Rattle.go_text.specs.Editions.most_open
 all_cut = refl
 
-pub cut_agree : within image 200 (started image 2) ≡ over (run all 2)
+pub cut_agree : within image 200 (started image 2) ≡ over (run_program all 2)
 unfolding Rattle.go_meaning.specs.Meaning.most_cells Rattle.go_text.specs.Editions.most_open
 cut_agree = refl
 

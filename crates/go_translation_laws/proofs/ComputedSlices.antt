@@ -1,15 +1,15 @@
 -- The rows of slices on the machine: the code of each program, and where its steps lead.
-use Rattle.std.proofs.Common.{◌≡◌, ℕ, List, [], ◌∷◌, Option, Some, None, refl, pos, negsuc, ◌++◌, map}
+use Rattle.std.proofs.Common.{◌≡◌, ℕ, List, [], ◌∷◌, Option, Some, refl, negsuc}
 use Rattle.std.specs.Prelude.{codes}
 use Rattle.go_const.specs.declared.constant.Const.TheVariants as consts
 use Rattle.go_types.specs.Types.{Type'}
 use Rattle.go_code.specs.declared.cell.Cell.{Cell}
-use Rattle.go_code.specs.declared.cell.Cell.TheVariants.{Int, Text}
-use Rattle.go_code.specs.declared.ending.Ending.TheVariants.{Cut, Panicked, Ended}
+use Rattle.go_code.specs.declared.cell.Cell.TheVariants.{Text}
+use Rattle.go_code.specs.declared.ending.Ending.TheVariants.{Panicked, Ended}
 use Rattle.go_code.specs.declared.ending.PanicKind.TheVariants.{Index, Slice as Bounds, Make as Making, Long}
 use Rattle.go_code.specs.Finals.{Final, Ends}
 use Rattle.go_code.specs.Machine.{within, started}
-use Rattle.go_typed.specs.Trees.{Stmt, make, absent, present, local, constant}
+use Rattle.go_typed.specs.Trees.{Stmt, make, absent, local, constant}
 use Rattle.go_meaning.proofs.ComputedSlices.{int, string, n, out, ints, ints_type, pairs, one, two, three_of, four, five, six, slice_of_it, var}
 use Rattle.go_translation_laws.proofs.Computed.{main_of, image_of}
 

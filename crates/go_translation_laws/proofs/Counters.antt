@@ -32,7 +32,7 @@ use Rattle.go_code.proofs.Follows.{push_leads}
 use Rattle.go_code.proofs.FollowsInside.{operate_leads}
 use Rattle.go_code.proofs.Stands.{stands_next}
 use Rattle.go_meaning.specs.Values.{single, is_of}
-use Rattle.go_meaning.specs.Meaning.{World}
+use Rattle.go_meaning.specs.Meaning.{ProgramState}
 use Rattle.go_gen.specs.Translation.{Places, load, store, within_code, operators_code}
 use Rattle.go_translation_laws.proofs.Runs.{here, On}
 use Rattle.go_translation_laws.proofs.Rows.{on_front, loads, stores}
@@ -93,15 +93,15 @@ abbrev pub up_code : ℕ → List on_cells.Operator → List (Instr ℕ)
 up_code at ops = load (at + 1) 1 ∷ In_frame (Push (Int (pos 1))) ∷ operators_code ops ++ store (at + 1) 1 ∷ []
 
 module _ (image : Image) (final : Final) (depth : ℕ) (code : List (Instr ℕ)) (callers : List Frame) (starts : List Start) (p : Places ℕ) where
-  abbrev Onto : ℕ → List (Instr ℕ) → List Cell → ℕ → List Cell → World → Type 0
+  abbrev Onto : ℕ → List (Instr ℕ) → List Cell → ℕ → List Cell → ProgramState → Type 0
   Onto t k front m stack w = On image final depth code callers starts p t k front m stack w
 
-  pub pushes : (t : ℕ) (c : Cell) (k : List (Instr ℕ)) (front : List Cell) (m : ℕ) (stack : List Cell) (w : World) → cell_fits c ≡ true → Onto t k front m (stack ++ c ∷ []) w → Onto t (In_frame (Push c) ∷ k) front m stack w
+  pub pushes : (t : ℕ) (c : Cell) (k : List (Instr ℕ)) (front : List Cell) (m : ℕ) (stack : List Cell) (w : ProgramState) → cell_fits c ≡ true → Onto t k front m (stack ++ c ∷ []) w → Onto t (In_frame (Push c) ∷ k) front m stack w
   pushes t c k front m stack w known_cell on known few place high long s =
       push_leads image (here image final depth code callers starts p place (front ++ high) stack w) _ callers c k final refl s known_cell
       (on known few (place + 1) high long (stands_next code place _ k s))
 
-  pub operates : (t : ℕ) (operator : on_cells.Operator) (row : List Cell) (c : Cell) (k : List (Instr ℕ)) (front : List Cell) (m : ℕ) (stack : List Cell) (w : World) → length row ≡ operands operator → operate operator row ≡ operators.Gives c → Onto t k front m (stack ++ c ∷ []) w → Onto t (Operate operator ∷ k) front m (stack ++ row) w
+  pub operates : (t : ℕ) (operator : on_cells.Operator) (row : List Cell) (c : Cell) (k : List (Instr ℕ)) (front : List Cell) (m : ℕ) (stack : List Cell) (w : ProgramState) → length row ≡ operands operator → operate operator row ≡ operators.Gives c → Onto t k front m (stack ++ c ∷ []) w → Onto t (Operate operator ∷ k) front m (stack ++ row) w
   operates t operator row c k front m stack w size e on known few place high long s =
       operate_leads image (here image final depth code callers starts p place (front ++ high) (stack ++ row) w) _ callers operator stack row c final (record { frames = refl; rest = k; stands = s }) (record { is = refl; long = size }) e
       (on known few (place + 1) high long (stands_next code place _ k s))
@@ -114,33 +114,33 @@ module _ (image : Image) (final : Final) (depth : ℕ) (code : List (Instr ℕ))
     second : (x : Cell) → length (front ++ x ∷ []) ≡ at + 1
     second x = omega (arith, long, length-append front (x ∷ []))
 
-    pub loads_first : (x y : Cell) (stack : List Cell) (w : World) → Onto t k (front ++ x ∷ y ∷ []) m (stack ++ x ∷ []) w → Onto t (load at 1 ∷ k) (front ++ x ∷ y ∷ []) m stack w
+    pub loads_first : (x y : Cell) (stack : List Cell) (w : ProgramState) → Onto t k (front ++ x ∷ y ∷ []) m (stack ++ x ∷ []) w → Onto t (load at 1 ∷ k) (front ++ x ∷ y ∷ []) m stack w
     loads_first x y stack w on = loads image final depth code callers starts p t at 1 front (x ∷ []) (y ∷ []) k m stack w long refl on
 
-    pub loads_second : (x y : Cell) (stack : List Cell) (w : World) → Onto t k (front ++ x ∷ y ∷ []) m (stack ++ y ∷ []) w → Onto t (load (at + 1) 1 ∷ k) (front ++ x ∷ y ∷ []) m stack w
+    pub loads_second : (x y : Cell) (stack : List Cell) (w : ProgramState) → Onto t k (front ++ x ∷ y ∷ []) m (stack ++ y ∷ []) w → Onto t (load (at + 1) 1 ∷ k) (front ++ x ∷ y ∷ []) m stack w
     loads_second x y stack w on =
         on_front image final depth code callers starts p t (load (at + 1) 1 ∷ k) ((front ++ x ∷ []) ++ y ∷ []) (front ++ x ∷ y ∷ []) m stack w (behind x y)
         (loads image final depth code callers starts p t (at + 1) 1 (front ++ x ∷ []) (y ∷ []) [] k m stack w (second x) refl
         (on_front image final depth code callers starts p t k (front ++ x ∷ y ∷ []) ((front ++ x ∷ []) ++ y ∷ []) m (stack ++ y ∷ []) w (sym (behind x y)) on))
 
-    pub stores_first : (x y z : Cell) (stack : List Cell) (w : World) → Onto t k (front ++ z ∷ y ∷ []) m stack w → Onto t (store at 1 ∷ k) (front ++ x ∷ y ∷ []) m (stack ++ z ∷ []) w
+    pub stores_first : (x y z : Cell) (stack : List Cell) (w : ProgramState) → Onto t k (front ++ z ∷ y ∷ []) m stack w → Onto t (store at 1 ∷ k) (front ++ x ∷ y ∷ []) m (stack ++ z ∷ []) w
     stores_first x y z stack w on = stores image final depth code callers starts p t at 1 front (x ∷ []) (z ∷ []) (y ∷ []) k m stack w long refl refl on
 
-    pub stores_second : (x y z : Cell) (stack : List Cell) (w : World) → Onto t k (front ++ x ∷ z ∷ []) m stack w → Onto t (store (at + 1) 1 ∷ k) (front ++ x ∷ y ∷ []) m (stack ++ z ∷ []) w
+    pub stores_second : (x y z : Cell) (stack : List Cell) (w : ProgramState) → Onto t k (front ++ x ∷ z ∷ []) m stack w → Onto t (store (at + 1) 1 ∷ k) (front ++ x ∷ y ∷ []) m (stack ++ z ∷ []) w
     stores_second x y z stack w on =
         on_front image final depth code callers starts p t (store (at + 1) 1 ∷ k) ((front ++ x ∷ []) ++ y ∷ []) (front ++ x ∷ y ∷ []) m (stack ++ z ∷ []) w (behind x y)
         (stores image final depth code callers starts p t (at + 1) 1 (front ++ x ∷ []) (y ∷ []) (z ∷ []) [] k m stack w (second x) refl refl
         (on_front image final depth code callers starts p t k (front ++ x ∷ z ∷ []) ((front ++ x ∷ []) ++ z ∷ []) m stack w (sym (behind x z)) on))
 
   -- whether the counter is below the range
-  pub within_follows : (at : ℕ) (front : List Cell) → length front ≡ at → (t m : ℕ) (k : List (Instr ℕ)) (z : ℤ) (c : ℕ) (b : Bool) (w : World) → holds Less (int_cmp (pos c) z) ≡ b → Onto t k (front ++ Int z ∷ Int (pos c) ∷ []) m (Truth b ∷ []) w → Onto t (within_code at ++ k) (front ++ Int z ∷ Int (pos c) ∷ []) m [] w
+  pub within_follows : (at : ℕ) (front : List Cell) → length front ≡ at → (t m : ℕ) (k : List (Instr ℕ)) (z : ℤ) (c : ℕ) (b : Bool) (w : ProgramState) → holds Less (int_cmp (pos c) z) ≡ b → Onto t k (front ++ Int z ∷ Int (pos c) ∷ []) m (Truth b ∷ []) w → Onto t (within_code at ++ k) (front ++ Int z ∷ Int (pos c) ∷ []) m [] w
   within_follows at front long t m k z c b w e on =
       loads_second at front long t m (load at 1 ∷ Operate (Compare Less) ∷ k) (Int z) (Int (pos c)) [] w
       (loads_first at front long t m (Operate (Compare Less) ∷ k) (Int z) (Int (pos c)) (Int (pos c) ∷ []) w
       (operates t (Compare Less) (Int (pos c) ∷ Int z ∷ []) (Truth b) k (front ++ Int z ∷ Int (pos c) ∷ []) m [] w refl (ap (λ v. operators.Gives (Truth v)) e) on))
 
   -- the counter is counted up
-  pub up_follows : (at : ℕ) (front : List Cell) → length front ≡ at → (t m : ℕ) (k : List (Instr ℕ)) (kind : IntKind) (x : Cell) (c : ℕ) (w : World) → wrapped kind (pos c +ℤ pos 1) ≡ pos (c + 1) → Onto t k (front ++ x ∷ Int (pos (c + 1)) ∷ []) m [] w → Onto t (up_code at (Arithmetic Add kind ∷ []) ++ k) (front ++ x ∷ Int (pos c) ∷ []) m [] w
+  pub up_follows : (at : ℕ) (front : List Cell) → length front ≡ at → (t m : ℕ) (k : List (Instr ℕ)) (kind : IntKind) (x : Cell) (c : ℕ) (w : ProgramState) → wrapped kind (pos c +ℤ pos 1) ≡ pos (c + 1) → Onto t k (front ++ x ∷ Int (pos (c + 1)) ∷ []) m [] w → Onto t (up_code at (Arithmetic Add kind ∷ []) ++ k) (front ++ x ∷ Int (pos c) ∷ []) m [] w
   up_follows at front long t m k kind x c w e on =
       loads_second at front long t m (In_frame (Push (Int (pos 1))) ∷ Operate (Arithmetic Add kind) ∷ store (at + 1) 1 ∷ k) x (Int (pos c)) [] w
       (pushes t (Int (pos 1)) (Operate (Arithmetic Add kind) ∷ store (at + 1) 1 ∷ k) (front ++ x ∷ Int (pos c) ∷ []) m (Int (pos c) ∷ []) w refl

@@ -17,7 +17,7 @@ use Rattle.go_code.proofs.Follows.{split_row}
 use Rattle.go_code.proofs.FollowsInside.{frame_leads}
 use Rattle.go_code.proofs.Stands.{stands_next}
 use Rattle.go_meaning.specs.Values.{Value, flat, is_of}
-use Rattle.go_meaning.specs.Meaning.{World, Local, Locals, if_known, with_local, defined}
+use Rattle.go_meaning.specs.Meaning.{ProgramState, Local, Locals, if_known, with_local, defined}
 use Rattle.go_gen.specs.Translation.{Places, store, define_code, defines_code}
 use Rattle.go_translation_laws.proofs.Frames.{together, types_of, lies}
 use Rattle.go_meaning_laws.proofs.Values.{flat_long}
@@ -40,13 +40,13 @@ types_kept (x ∷ xs) zero l o e = ap (λ y. y ∷ types_of xs) (same x l e)
         inner a b e = cc
 types_kept (x ∷ xs) (suc n) l o e = ap (λ ts. x.of ∷ ts) (types_kept xs n l o e)
 
-pub record Gets (P : Locals → World → Type 0) (locals : Locals) (n : ℕ) (v : Value) (w : World) : Type 0 where
+pub record Gets (P : Locals → ProgramState → Type 0) (locals : Locals) (n : ℕ) (v : Value) (w : ProgramState) : Type 0 where
   pub l : Local
   pub found : slice_get locals n ≡ Some l
   pub typed : is_of l.of v ≡ true
   pub holds : P (slice_set locals n (record { of = l.of; value = Some v })) w
 
-pub gets : (final : Final) (P : Locals → World → Type 0) (locals : Locals) (n : ℕ) (v : Value) (w : World) (o : Option Local) → slice_get locals n ≡ o → Onward final P (if_known (option_and_then (λ l. if is_of l.of v then Some (slice_set locals n (record { of = l.of; value = Some v })) else None) o) w) → Gets P locals n v w
+pub gets : (final : Final) (P : Locals → ProgramState → Type 0) (locals : Locals) (n : ℕ) (v : Value) (w : ProgramState) (o : Option Local) → slice_get locals n ≡ o → Onward final P (if_known (option_and_then (λ l. if is_of l.of v then Some (slice_set locals n (record { of = l.of; value = Some v })) else None) o) w) → Gets P locals n v w
 gets final P locals n v w None e h = absurd h
 gets final P locals n v w (Some l) e h = by_test (is_of l.of v) refl h
   where
@@ -55,14 +55,14 @@ gets final P locals n v w (Some l) e h = by_test (is_of l.of v) refl h
     by_test false typed h = absurd h
 
 module _ (image : Image) (final : Final) (depth : ℕ) (code : List (Instr ℕ)) (callers : List Frame) (starts : List Start) (p : Places ℕ) (types : List Type') where
-  abbrev Onto : ℕ → List (Instr ℕ) → List Cell → ℕ → List Cell → World → Type 0
+  abbrev Onto : ℕ → List (Instr ℕ) → List Cell → ℕ → List Cell → ProgramState → Type 0
   Onto t k front m stack w = On image final depth code callers starts p t k front m stack w
 
-  abbrev Goes_on : ℕ → List (Instr ℕ) → Locals → List Cell → ℕ → List Cell → World → Type 0
+  abbrev Goes_on : ℕ → List (Instr ℕ) → Locals → List Cell → ℕ → List Cell → ProgramState → Type 0
   Goes_on t k locals low m stack w = Follows image final depth code callers starts p types t k locals low m stack w
 
   -- a row is taken off the stack
-  pub pops : (t count : ℕ) (row : List Cell) (k : List (Instr ℕ)) (front : List Cell) (m : ℕ) (stack : List Cell) (w : World) → length row ≡ count → Onto t k front m stack w → Onto t (In_frame (Pop count) ∷ k) front m (stack ++ row) w
+  pub pops : (t count : ℕ) (row : List Cell) (k : List (Instr ℕ)) (front : List Cell) (m : ℕ) (stack : List Cell) (w : ProgramState) → length row ≡ count → Onto t k front m stack w → Onto t (In_frame (Pop count) ∷ k) front m (stack ++ row) w
   pops t count row k front m stack w size on known few place high long s =
       frame_leads image (here image final depth code callers starts p place (front ++ high) (stack ++ row) w) _ callers (Pop count)
       (record { depth = depth; code = code; place = place + 1; cells = front ++ high; stack = stack }) final (record { frames = refl; rest = k; stands = s })
@@ -70,7 +70,7 @@ module _ (image : Image) (final : Final) (depth : ℕ) (code : List (Instr ℕ))
       (on known few (place + 1) high long (stands_next code place _ k s))
 
   -- a value goes from the stack into a local variable
-  pub local_stores : Placed image final depth code callers starts p types → (t n : ℕ) (v : Value) (k : List (Instr ℕ)) (locals : Locals) (low : List Cell) (m : ℕ) (stack : List Cell) (w : World) → types_of locals ≡ types → Onward final (λ ls w1. types_of ls ≡ types → Goes_on t k ls low m stack w1) (if_known (with_local locals n v) w) → Goes_on t (store (p.locals n) (length (flat v)) ∷ k) locals low m (stack ++ flat v) w
+  pub local_stores : Placed image final depth code callers starts p types → (t n : ℕ) (v : Value) (k : List (Instr ℕ)) (locals : Locals) (low : List Cell) (m : ℕ) (stack : List Cell) (w : ProgramState) → types_of locals ≡ types → Onward final (λ ls w1. types_of ls ≡ types → Goes_on t k ls low m stack w1) (if_known (with_local locals n v) w) → Goes_on t (store (p.locals n) (length (flat v)) ∷ k) locals low m (stack ++ flat v) w
   local_stores placed t n v k locals low m stack w same h rows fits =
       let g = gets final (λ ls w1. types_of ls ≡ types → Goes_on t k ls low m stack w1) locals n v w (slice_get locals n) refl h in
       let at = lies rows locals 0 n g.l fits g.found in
@@ -89,7 +89,7 @@ module _ (image : Image) (final : Final) (depth : ℕ) (code : List (Instr ℕ))
 
   module _ (placed : Placed image final depth code callers starts p types) where
     -- one of them, where those behind it have their values
-    define_follows : (t : ℕ) (n : Option ℕ) (ns : List (Option ℕ)) (v : Value) (vs : List Value) (k : List (Instr ℕ)) (locals : Locals) (low : List Cell) (m : ℕ) (stack : List Cell) (w : World) → Onward final (λ ls w1. types_of ls ≡ types → Goes_on t k ls low m stack w1) (if_known (defined (n ∷ ns) (v ∷ vs) locals) w) → Onward final (λ ls w1. types_of ls ≡ types → Goes_on t (define_code p n (length (flat v)) ∷ k) ls low m (stack ++ flat v) w1) (if_known (defined ns vs locals) w)
+    define_follows : (t : ℕ) (n : Option ℕ) (ns : List (Option ℕ)) (v : Value) (vs : List Value) (k : List (Instr ℕ)) (locals : Locals) (low : List Cell) (m : ℕ) (stack : List Cell) (w : ProgramState) → Onward final (λ ls w1. types_of ls ≡ types → Goes_on t k ls low m stack w1) (if_known (defined (n ∷ ns) (v ∷ vs) locals) w) → Onward final (λ ls w1. types_of ls ≡ types → Goes_on t (define_code p n (length (flat v)) ∷ k) ls low m (stack ++ flat v) w1) (if_known (defined ns vs locals) w)
     define_follows t None ns v vs k locals low m stack w h =
         onward_map final _ _ (if_known (defined ns vs locals) w) (λ ls w1 on same rows fits. pops t (length (flat v)) (flat v) k (together rows ++ low) m stack w1 refl (on same rows fits)) h
     define_follows t (Some n) ns v vs k locals low m stack w h = by_case (defined ns vs locals) h
@@ -99,7 +99,7 @@ module _ (image : Image) (final : Final) (depth : ℕ) (code : List (Instr ℕ))
         by_case (Some ls) h = λ same. local_stores placed t n v k ls low m stack w same h
 
     -- new variables, from the last to the first
-    pub defines_follow : (t : ℕ) (ns : List (Option ℕ)) (vs : List Value) (k : List (Instr ℕ)) (locals : Locals) (low : List Cell) (m : ℕ) (stack : List Cell) (w : World) → types_of locals ≡ types → Onward final (λ ls w1. types_of ls ≡ types → Goes_on t k ls low m stack w1) (if_known (defined ns vs locals) w) → Goes_on t (defines_code p ns (lengths vs) ++ k) locals low m (stack ++ flat_map flat vs) w
+    pub defines_follow : (t : ℕ) (ns : List (Option ℕ)) (vs : List Value) (k : List (Instr ℕ)) (locals : Locals) (low : List Cell) (m : ℕ) (stack : List Cell) (w : ProgramState) → types_of locals ≡ types → Onward final (λ ls w1. types_of ls ≡ types → Goes_on t k ls low m stack w1) (if_known (defined ns vs locals) w) → Goes_on t (defines_code p ns (lengths vs) ++ k) locals low m (stack ++ flat_map flat vs) w
     defines_follow t [] [] k locals low m stack w same h = follows_stack image final depth code callers starts p types t k locals low m stack (stack ++ []) w (sym (append-nil stack)) (h same)
     defines_follow t [] (v ∷ vs) k locals low m stack w same h = absurd h
     defines_follow t (n ∷ ns) [] k locals low m stack w same h = absurd h

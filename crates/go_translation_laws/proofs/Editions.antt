@@ -9,7 +9,7 @@ use Rattle.go_text.specs.Editions.{edition_number}
 use Rattle.go_link.specs.Links.{editions_differ, is_of_other, link_refusal}
 use Rattle.go_link.proofs.Found.{allowed}
 use Rattle.go_typed.specs.Trees.{Package}
-use Rattle.go_meaning.specs.Programs.{edition_of, last_package}
+use Rattle.go_meaning.specs.Programs.{program_edition, last_package}
 use Rattle.go_gen.specs.Translation.{object_of}
 use Rattle.go_translation_laws.specs.Programs.{HaveOneEdition}
 use Rattle.go_translation_laws.proofs.Images.{last_edition}
@@ -45,27 +45,27 @@ module _ (edition : Edition) where
       ∙ ap (λ b. b || list_any (is_of_other edition) (map object_of ps)) (own_number edition)
       ∙ none_other ps (All-tail Is p ps h)
 
-  last_is : (p : Package) (ps : List Package) → All Is (p ∷ ps) → edition_of (last_package (p ∷ ps)) ≡ edition
+  last_is : (p : Package) (ps : List Package) → All Is (p ∷ ps) → program_edition (last_package (p ∷ ps)) ≡ edition
   last_is p ps h =
-      ap edition_of (slice_get-get_or (p ∷ ps) (length (p ∷ ps) - 1) p (omega arith))
+      ap program_edition (slice_get-get_or (p ∷ ps) (length (p ∷ ps) - 1) p (omega arith))
       ∙ All-get_or Is (p ∷ ps) (length (p ∷ ps) - 1) p (omega arith) h
 
   -- packages that are all of this edition have one
   pub have_one : (packages : List Package) → All Is packages → HaveOneEdition packages
-  have_one [] h = All-nil (λ (p : Package). p.edition ≡ edition_of (last_package []))
+  have_one [] h = All-nil (λ (p : Package). p.edition ≡ program_edition (last_package []))
   have_one (p ∷ ps) h =
-      All-weaker Is (λ (q : Package). q.edition ≡ edition_of (last_package (p ∷ ps))) (λ q is. is ∙ sym (last_is p ps h)) (p ∷ ps) h
+      All-weaker Is (λ (q : Package). q.edition ≡ program_edition (last_package (p ∷ ps))) (λ q is. is ∙ sym (last_is p ps h)) (p ∷ ps) h
 
 -- packages of one edition have objects of one
 pub one_edition : (packages : List Package) → HaveOneEdition packages → editions_differ (map object_of packages) ≡ false
 one_edition packages h =
     ap (λ (e : Edition). list_any (is_of_other e) (map object_of packages)) (last_edition packages)
-    ∙ none_other (edition_of (last_package packages)) packages h
+    ∙ none_other (program_edition (last_package packages)) packages h
 
 -- and no others have
 pub alike : (packages : List Package) → editions_differ (map object_of packages) ≡ false → HaveOneEdition packages
 alike packages e =
-    all_alike (edition_of (last_package packages)) packages
+    all_alike (program_edition (last_package packages)) packages
     (ap (λ (d : Edition). list_any (is_of_other d) (map object_of packages)) (sym (last_edition packages)) ∙ e)
 
 -- what the linker doesn't refuse is of one edition

@@ -1,7 +1,7 @@
 -- The part of a slice's elements that a left side names is loaded and stored as its meaning says.
-use Rattle.std.proofs.Common.{◌≡◌, ℕ, zero, suc, ◌+◌, ◌*◌, ◌≤◌, Bool, true, false, ◌&&◌, nat_le, nat_lt, nat_eq, List, [], ◌∷◌, ◌++◌, length, take, drop, Option, Some, None, refl, sym, ap, ◌∙◌, subst, arith, length-append, length-take, length-drop, append_assoc, append-nil, ℤ, pos, negsuc}
+use Rattle.std.proofs.Common.{◌≡◌, ℕ, zero, suc, ◌+◌, ◌*◌, ◌≤◌, Bool, true, false, ◌&&◌, nat_le, nat_lt, nat_eq, List, [], ◌∷◌, ◌++◌, length, take, drop, Some, refl, sym, ap, ◌∙◌, subst, arith, length-append, length-take, length-drop, append_assoc, append-nil, ℤ, pos, negsuc}
 use Rattle.std.specs.Prelude.{if◌then◌else◌, slice_set}
-use Rattle.std.specs.List.{flat_map, list_all}
+use Rattle.std.specs.List.{list_all}
 use Rattle.std.proofs.lemmas.Bool.{leb-true, eq-eqb}
 use Rattle.std.proofs.Math.Nat.{suc-mul, zero-mul}
 use Rattle.std.proofs.Math.Seq.{take-append_seam, drop-append_seam}
@@ -22,15 +22,15 @@ use Rattle.go_code.specs.Images.{Image}
 use Rattle.go_code.specs.Machine.{Frame}
 use Rattle.go_code.specs.Operators as operators
 use Rattle.go_code.specs.Operators.{Operated}
-use Rattle.go_code.specs.Parts.{part, offset_of, with_index, with_row}
+use Rattle.go_code.specs.Parts.{part, offset_of, bind_index, with_row}
 use Rattle.go_code.specs.Rows.{row_of, most_room, has_room, if_there, put_at}
 use Rattle.go_code.proofs.FollowsInside.{row_leads}
 use Rattle.go_code.proofs.Stands.{stands_next}
 use Rattle.go_typed.specs.Trees as trees
-use Rattle.go_meaning.specs.Values.{Value, single, parts, Values, no_values, some_values, pack, unpack, flat, flat_all, is_of, Step, to_field, to_element, part_of, read, updated, if_gives}
+use Rattle.go_meaning.specs.Values.{Value, single, parts, Values, no_values, some_values, pack_values, unpack, flat, flat_all, is_of, Step, to_field, to_element, part_of, read, updated, if_gives}
 use Rattle.go_meaning.specs.Choices.{field_type, element_type}
-use Rattle.go_meaning.specs.Meaning.{World, Outcome, Gives, Stuck, Locals, in_slice, and_then, given, changed, elements, overwritten, with_array, with_elements, put, give}
-use Rattle.go_gen.specs.Translation.{Places, load, or_type, element_cells, expr_temps, steps_code, row_code}
+use Rattle.go_meaning.specs.Meaning.{ProgramState, Outcome, Gives, Stuck, Locals, in_slice, and_then, typed_or_panic, or_panic, elements_of_slice, overwritten, with_array, put, give}
+use Rattle.go_gen.specs.Translation.{Places, load, or_type, element_cells, expr_temps, steps_code, array_access_code}
 use Rattle.go_meaning_laws.proofs.Values.{flat_long}
 use Rattle.go_translation_laws.proofs.Shapes.{both_true, same_number, element_cells_are}
 use Rattle.go_translation_laws.proofs.Runs.{Onward, onward_then, here, On, on_as, on_stack}
@@ -41,7 +41,7 @@ use Rattle.go_translation_laws.proofs.Accessed.{reach_given, reach_changed}
 
 -- ---- elements side by side
 
-flat_packed : (vs : List Value) → flat_all (pack vs) ≡ row vs
+flat_packed : (vs : List Value) → flat_all (pack_values vs) ≡ row vs
 flat_packed [] = refl
 flat_packed (v ∷ vs) = ap (λ l. flat v ++ l) (flat_packed vs)
 
@@ -49,7 +49,7 @@ flat_unpacked : (vs : Values) → flat_all vs ≡ row (unpack vs)
 flat_unpacked no_values = refl
 flat_unpacked (some_values v vs) = ap (λ l. flat v ++ l) (flat_unpacked vs)
 
-unpacked : (vs : List Value) → unpack (pack vs) ≡ vs
+unpacked : (vs : List Value) → unpack (pack_values vs) ≡ vs
 unpacked [] = refl
 unpacked (v ∷ vs) = ap (λ l. v ∷ l) (unpacked vs)
 
@@ -79,7 +79,7 @@ times_more (suc a) (suc b) k le = (let rest = times_more a b k (omega (arith, le
 
 -- ---- the elements of a slice, which are a part of an array
 
-module _ (u : Type') (at start n c : ℕ) (w : World) where
+module _ (u : Type') (at start n c : ℕ) (w : ProgramState) where
   abbrev all : List Value
   all = row_of w.arrays at
 
@@ -87,7 +87,7 @@ module _ (u : Type') (at start n c : ℕ) (w : World) where
   window = take n (drop start all)
 
   abbrev pub whole : Value
-  whole = parts (pack window)
+  whole = parts (pack_values window)
 
   -- its elements are of the type, and the slice lies within it
   pub record Within : Type 0 where
@@ -106,10 +106,10 @@ module _ (u : Type') (at start n c : ℕ) (w : World) where
       let r = both_true (nat_le (length all) most_room) (nat_le (length all * cells u) most_room) f.1 in
       record { typed = h.0; within = omega (arith, leb-true n c g.0, leb-true (start + c) (length all) f.0); room = leb-true (length all * cells u) most_room r.1 }
 
-  pub elements_known : {A : Type 0} (final : Final) (P : A → World → Type 0) (next : Value → World → Outcome A) → Onward final P (and_then (elements u (single (Slice at start n c)) w) next) → Within × Onward final P (next whole w)
+  pub elements_known : {A : Type 0} (final : Final) (P : A → ProgramState → Type 0) (next : Value → ProgramState → Outcome A) → Onward final P (and_then (elements_of_slice u (single (Slice at start n c)) w) next) → Within × Onward final P (next whole w)
   elements_known {A} final P next h = by_test sound refl h
     where
-      by_test : (b : Bool) → sound ≡ b → Onward final P (and_then (and_then (if b then Gives all w else Stuck) (λ all1. Gives (parts (pack (take n (drop start all1)))))) next) → Within × Onward final P (next whole w)
+      by_test : (b : Bool) → sound ≡ b → Onward final P (and_then (and_then (if b then Gives all w else Stuck) (λ all1. Gives (parts (pack_values (take n (drop start all1)))))) next) → Within × Onward final P (next whole w)
       by_test true e h = (within_of e, h)
       by_test false e h = absurd h
 
@@ -154,7 +154,7 @@ reach_found : (k at start n c : ℕ) (z : ℤ) → part (Reaching k) (Slice at s
 reach_found k at start n c (negsuc i) = refl
 reach_found k at start n c (pos i) = by_test (nat_lt i n)
   where
-    by_test : (b : Bool) → with_index (if b then operators.Gives i else operators.Panics Out_of_range) (λ index. with_row (offset_of (pos ((start + index) * k))) (Slice at start n c)) ≡ with_row (with_index (if b then operators.Gives i else operators.Panics Out_of_range) (λ index. offset_of (pos (start * k + index * k)))) (Slice at start n c)
+    by_test : (b : Bool) → bind_index (if b then operators.Gives i else operators.Panics Out_of_range) (λ index. with_row (offset_of (pos ((start + index) * k))) (Slice at start n c)) ≡ with_row (bind_index (if b then operators.Gives i else operators.Panics Out_of_range) (λ index. offset_of (pos (start * k + index * k)))) (Slice at start n c)
     by_test true = ap (λ m. with_row (offset_of (pos m)) (Slice at start n c)) (sum_times start i k)
     by_test false = refl
 
@@ -167,14 +167,14 @@ no_field (struct fs) u n P e h = cc
 no_field (named p x t) u n P e h = cc
 
 module _ (image : Image) (final : Final) (depth : ℕ) (code : List (Instr ℕ)) (callers : List Frame) (starts : List Start) (p : Places ℕ) where
-  abbrev Onto : ℕ → List (Instr ℕ) → List Cell → ℕ → List Cell → World → Type 0
+  abbrev Onto : ℕ → List (Instr ℕ) → List Cell → ℕ → List Cell → ProgramState → Type 0
   Onto t k front m stack w = On image final depth code callers starts p t k front m stack w
 
-  abbrev Counts : ℕ → List (Instr ℕ) → List Cell → ℕ → List Cell → World → ℕ → List Step → Value → Operated Value → Type 0
+  abbrev Counts : ℕ → List (Instr ℕ) → List Cell → ℕ → List Cell → ProgramState → ℕ → List Step → Value → Operated Value → Type 0
   Counts t k front m stack w base ss v r = From image final depth code callers starts p t k front m stack w base ss v r
 
   -- the element's offset in the row, behind its slice
-  reach_runs : (t : ℕ) (k : List (Instr ℕ)) (front : List Cell) (m : ℕ) (stack : List Cell) (w : World) (u : Type') (at start n c : ℕ) (z : ℤ) (ss : List Step) (v : Value) (behind : List (Instr ℕ)) → is_of (array n u) v ≡ true → start * cells u + cells (array n u) ≤ most_room → ((inner : Value) (base : ℕ) → is_of u inner ≡ true → base + cells u ≤ most_room → Counts t k front m (stack ++ Slice at start n c ∷ []) w base ss inner (read ss inner) → Onto t behind front m ((stack ++ Slice at start n c ∷ []) ++ Int (pos base) ∷ []) w) →
+  reach_runs : (t : ℕ) (k : List (Instr ℕ)) (front : List Cell) (m : ℕ) (stack : List Cell) (w : ProgramState) (u : Type') (at start n c : ℕ) (z : ℤ) (ss : List Step) (v : Value) (behind : List (Instr ℕ)) → is_of (array n u) v ≡ true → start * cells u + cells (array n u) ≤ most_room → ((inner : Value) (base : ℕ) → is_of u inner ≡ true → base + cells u ≤ most_room → Counts t k front m (stack ++ Slice at start n c ∷ []) w base ss inner (read ss inner) → Onto t behind front m ((stack ++ Slice at start n c ∷ []) ++ Int (pos base) ∷ []) w) →
       Counts t k front m (stack ++ Slice at start n c ∷ []) w (start * cells u) (to_element z ∷ ss) v (read (to_element z ∷ ss) v) → Onto t (On_part (Reaching (cells u)) ∷ behind) front m ((stack ++ Slice at start n c ∷ []) ++ Int z ∷ []) w
   reach_runs t k front m stack w u at start n c z ss v behind typed small next h =
       on_stack image final depth code callers starts p t (On_part (Reaching (cells u)) ∷ behind) front m _ _ w (sym (append_assoc stack (Slice at start n c ∷ []) (Int z ∷ [])))
@@ -194,8 +194,8 @@ module _ (image : Image) (final : Final) (depth : ℕ) (code : List (Instr ℕ))
       by_part operators.Senseless e finds h = absurd h
 
   -- the slice and the first index lie in temporaries, and so do the other indexes
-  pub row_runs : (of u : Type') → element_type (underlying of) ≡ Some u → (q : trees.Steps) (s : Step) (ss : List Step) (at start n c : ℕ) (v : Value) (indexes : List Cell) (there place t : ℕ) (k : List (Instr ℕ)) (front : List Cell) (m : ℕ) (stack : List Cell) (w : World) →
-      Has front there (Slice at start n c ∷ []) → Has front place indexes → Kept of q (s ∷ ss) indexes → is_of (array n u) v ≡ true → start * cells u + cells (array n u) ≤ most_room → Counts t k front m (stack ++ Slice at start n c ∷ []) w (start * cells u) (s ∷ ss) v (read (s ∷ ss) v) → Onto t (row_code of there place q ++ k) front m stack w
+  pub row_runs : (of u : Type') → element_type (underlying of) ≡ Some u → (q : trees.Steps) (s : Step) (ss : List Step) (at start n c : ℕ) (v : Value) (indexes : List Cell) (there place t : ℕ) (k : List (Instr ℕ)) (front : List Cell) (m : ℕ) (stack : List Cell) (w : ProgramState) →
+      Has front there (Slice at start n c ∷ []) → Has front place indexes → Kept of q (s ∷ ss) indexes → is_of (array n u) v ≡ true → start * cells u + cells (array n u) ≤ most_room → Counts t k front m (stack ++ Slice at start n c ∷ []) w (start * cells u) (s ∷ ss) v (read (s ∷ ss) v) → Onto t (array_access_code of there place q ++ k) front m stack w
   row_runs of u found trees.here s ss at start n c v indexes there place t k front m stack w slices has kept typed small h = absurd kept
   row_runs of u found (trees.to_field i q) (to_field j) ss at start n c v indexes there place t k front m stack w slices has kept typed small h = absurd (no_field (underlying of) u i (λ x. Kept x q ss indexes) found kept.1)
   row_runs of u found (trees.to_field i q) (to_element z) ss at start n c v indexes there place t k front m stack w slices has kept typed small h = absurd kept
@@ -219,7 +219,7 @@ module _ (image : Image) (final : Final) (depth : ℕ) (code : List (Instr ℕ))
 
   -- ---- what is read
 
-  get_runs : (at start n c count o : ℕ) (got : List Cell) (t : ℕ) (k : List (Instr ℕ)) (front : List Cell) (m : ℕ) (stack : List Cell) (w : World) → cells_at (row_of (rows w.arrays) at) o count ≡ Some got → Onto t k front m (stack ++ got) w → Onto t (In_row (GetAt count) ∷ k) front m ((stack ++ Slice at start n c ∷ []) ++ Int (pos o) ∷ []) w
+  get_runs : (at start n c count o : ℕ) (got : List Cell) (t : ℕ) (k : List (Instr ℕ)) (front : List Cell) (m : ℕ) (stack : List Cell) (w : ProgramState) → cells_at (row_of (rows w.arrays) at) o count ≡ Some got → Onto t k front m (stack ++ got) w → Onto t (In_row (GetAt count) ∷ k) front m ((stack ++ Slice at start n c ∷ []) ++ Int (pos o) ∷ []) w
   get_runs at start n c count o got t k front m stack w e on =
       on_stack image final depth code callers starts p t (In_row (GetAt count) ∷ k) front m _ _ w (sym (append_assoc stack (Slice at start n c ∷ []) (Int (pos o) ∷ [])))
       (λ known few place high size s.
@@ -228,13 +228,13 @@ module _ (image : Image) (final : Final) (depth : ℕ) (code : List (Instr ℕ))
       (ap (λ x. if_there x (λ cells. operators.Gives (record { rows = rows w.arrays; cells = cells }))) e)
       (on known few (place + 1) high size (stands_next code place _ k s)))
 
-  pub take_slice : (of u : Type') → element_type (underlying of) ≡ Some u → (q : trees.Steps) (s : Step) (ss : List Step) (sliced : Cell) (out : Type') (indexes : List Cell) (there place t : ℕ) (k : List (Instr ℕ)) (front : List Cell) (m : ℕ) (stack : List Cell) (w : World) → Has front there (sliced ∷ []) → Has front place indexes → Kept of q (s ∷ ss) indexes →
-      Onward final (λ x w1. is_of out x ≡ true → Onto t k front m (stack ++ flat x) w1) (and_then (elements u (single sliced) w) (λ all. given out (read (s ∷ ss) all))) → Onto t (row_code of there place q ++ (In_row (GetAt (cells out)) ∷ k)) front m stack w
+  pub take_slice : (of u : Type') → element_type (underlying of) ≡ Some u → (q : trees.Steps) (s : Step) (ss : List Step) (sliced : Cell) (out : Type') (indexes : List Cell) (there place t : ℕ) (k : List (Instr ℕ)) (front : List Cell) (m : ℕ) (stack : List Cell) (w : ProgramState) → Has front there (sliced ∷ []) → Has front place indexes → Kept of q (s ∷ ss) indexes →
+      Onward final (λ x w1. is_of out x ≡ true → Onto t k front m (stack ++ flat x) w1) (and_then (elements_of_slice u (single sliced) w) (λ all. typed_or_panic out (read (s ∷ ss) all))) → Onto t (array_access_code of there place q ++ (In_row (GetAt (cells out)) ∷ k)) front m stack w
   take_slice of u found q s ss (Int z) out indexes there place t k front m stack w slices has kept h = absurd h
   take_slice of u found q s ss (Truth b) out indexes there place t k front m stack w slices has kept h = absurd h
   take_slice of u found q s ss (Text x) out indexes there place t k front m stack w slices has kept h = absurd h
   take_slice of u found q s ss (Slice at start n c) out indexes there place t k front m stack w slices has kept h =
-      let known = elements_known u at start n c w final (λ x w1. is_of out x ≡ true → Onto t k front m (stack ++ flat x) w1) (λ all. given out (read (s ∷ ss) all)) h in
+      let known = elements_known u at start n c w final (λ x w1. is_of out x ≡ true → Onto t k front m (stack ++ flat x) w1) (λ all. typed_or_panic out (read (s ∷ ss) all)) h in
       let v : Value = whole u at start n c w in
       row_runs of u found q s ss at start n c v indexes there place t (In_row (GetAt (cells out)) ∷ k) front m stack w slices has kept (window_typed u at start n c w known.0) (window_room u at start n c w known.0)
       (reach_given image final depth code callers starts p (λ x w1. is_of out x ≡ true → Onto t k front m (stack ++ flat x) w1) _ out (s ∷ ss) v w (read (s ∷ ss) v) known.1 (λ x o led typed on.
@@ -243,7 +243,7 @@ module _ (image : Image) (final : Final) (depth : ℕ) (code : List (Instr ℕ))
 
   -- ---- what is given
 
-  set_runs : (at start n c count o : ℕ) (new : List Cell) (other : List Value) (t : ℕ) (k : List (Instr ℕ)) (front : List Cell) (m : ℕ) (stack : List Cell) (w : World) → length new ≡ count → cells_with (row_of (rows w.arrays) at) o new ≡ Some (row other) → Onto t k front m stack (with_array w at other) → Onto t (In_row (SetAt count) ∷ k) front m (((stack ++ new) ++ Slice at start n c ∷ []) ++ Int (pos o) ∷ []) w
+  set_runs : (at start n c count o : ℕ) (new : List Cell) (other : List Value) (t : ℕ) (k : List (Instr ℕ)) (front : List Cell) (m : ℕ) (stack : List Cell) (w : ProgramState) → length new ≡ count → cells_with (row_of (rows w.arrays) at) o new ≡ Some (row other) → Onto t k front m stack (with_array w at other) → Onto t (In_row (SetAt count) ∷ k) front m (((stack ++ new) ++ Slice at start n c ∷ []) ++ Int (pos o) ∷ []) w
   set_runs at start n c count o new other t k front m stack w long e on =
       let back : List Cell = Slice at start n c ∷ Int (pos o) ∷ [] in
       let all_of : List Cell = new ++ Slice at start n c ∷ Int (pos o) ∷ [] in
@@ -261,20 +261,20 @@ module _ (image : Image) (final : Final) (depth : ℕ) (code : List (Instr ℕ))
       (record { frames = refl; rest = k; stands = s }) (record { is = refl; long = size }) is
       (on_nothing t k front m stack (with_array w at other) on known few (place + 1) high high_long (stands_next code place _ k s)))
     where
-      on_nothing : (t : ℕ) (k : List (Instr ℕ)) (front : List Cell) (m : ℕ) (stack : List Cell) (w : World) → Onto t k front m stack w → Onto t k front m (stack ++ []) w
+      on_nothing : (t : ℕ) (k : List (Instr ℕ)) (front : List Cell) (m : ℕ) (stack : List Cell) (w : ProgramState) → Onto t k front m stack w → Onto t k front m (stack ++ []) w
       on_nothing t k front m stack w on = on_stack image final depth code callers starts p t k front m stack (stack ++ []) w (sym (append-nil stack)) on
 
-  pub give_slice : (P : Locals → World → Type 0) (of u : Type') → element_type (underlying of) ≡ Some u → (q : trees.Steps) (s : Step) (ss : List Step) (sliced : Cell) (y : Value) (count : ℕ) (indexes : List Cell) (there place t : ℕ) (k : List (Instr ℕ)) (locals : Locals) (front : List Cell) (m : ℕ) (stack : List Cell) (w : World) → Has front there (sliced ∷ []) → Has front place indexes → Kept of q (s ∷ ss) indexes → length (flat y) ≡ count → ((w1 : World) → P locals w1 → Onto t k front m stack w1) →
-      Onward final P (give (in_slice u (single sliced) (s ∷ ss)) y locals w) → Onto t (row_code of there place q ++ (In_row (SetAt count) ∷ k)) front m (stack ++ flat y) w
+  pub give_slice : (P : Locals → ProgramState → Type 0) (of u : Type') → element_type (underlying of) ≡ Some u → (q : trees.Steps) (s : Step) (ss : List Step) (sliced : Cell) (y : Value) (count : ℕ) (indexes : List Cell) (there place t : ℕ) (k : List (Instr ℕ)) (locals : Locals) (front : List Cell) (m : ℕ) (stack : List Cell) (w : ProgramState) → Has front there (sliced ∷ []) → Has front place indexes → Kept of q (s ∷ ss) indexes → length (flat y) ≡ count → ((w1 : ProgramState) → P locals w1 → Onto t k front m stack w1) →
+      Onward final P (give (in_slice u (single sliced) (s ∷ ss)) y locals w) → Onto t (array_access_code of there place q ++ (In_row (SetAt count) ∷ k)) front m (stack ++ flat y) w
   give_slice P of u found q s ss (Int z) y count indexes there place t k locals front m stack w slices has kept long on h = absurd h
   give_slice P of u found q s ss (Truth b) y count indexes there place t k locals front m stack w slices has kept long on h = absurd h
   give_slice P of u found q s ss (Text x) y count indexes there place t k locals front m stack w slices has kept long on h = absurd h
   give_slice P of u found q s ss (Slice at start n c) y count indexes there place t k locals front m stack w slices has kept long on h =
-      let known = elements_known u at start n c w final P (λ old w1. and_then (changed (updated (s ∷ ss) old y) w1) (λ new. put (in_slice u (single (Slice at start n c)) (s ∷ ss)) new locals)) h in
+      let known = elements_known u at start n c w final P (λ old w1. and_then (or_panic (updated (s ∷ ss) old y) w1) (λ new. put (in_slice u (single (Slice at start n c)) (s ∷ ss)) new locals)) h in
       let v : Value = whole u at start n c w in
       row_runs of u found q s ss at start n c v indexes there place t (In_row (SetAt count) ∷ k) front m (stack ++ flat y) w slices has kept (window_typed u at start n c w known.0) (window_room u at start n c w known.0)
       (reach_changed image final depth code callers starts p (λ new w1. Onward final P (put (in_slice u (single (Slice at start n c)) (s ∷ ss)) new locals w1)) _ (s ∷ ss) v y w (read (s ∷ ss) v) refl
-      (onward_then final P (changed (updated (s ∷ ss) v y) w) _ known.1) (λ x o led goes.
+      (onward_then final P (or_panic (updated (s ∷ ss) v y) w) _ known.1) (λ x o led goes.
       stored known.0 x o led (led.renewed y).new refl goes))
     where
       stored : (known : Within u at start n c w) (x : Value) (o : ℕ) (led : Led (s ∷ ss) (whole u at start n c w) x o) (new : Value) → (led.renewed y).new ≡ new → Onward final P (put (in_slice u (single (Slice at start n c)) (s ∷ ss)) new locals w) → Onto t (In_row (SetAt count) ∷ k) front m (((stack ++ flat y) ++ Slice at start n c ∷ []) ++ Int (pos (start * cells u + o)) ∷ []) w

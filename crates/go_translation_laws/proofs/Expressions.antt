@@ -13,9 +13,9 @@ use Rattle.go_code.specs.Finals.{Final}
 use Rattle.go_code.specs.Images.{Image}
 use Rattle.go_code.specs.Machine.{Frame}
 use Rattle.go_typed.specs.Trees as trees
-use Rattle.go_typed.specs.Trees.{Symbol, Expr, Exprs, no_exprs, some_exprs, Perhaps, absent, present, Parts, no_parts, part, Source, each, results, zeros}
+use Rattle.go_typed.specs.Trees.{Symbol, Expr, Exprs, no_exprs, some_exprs, Perhaps, absent, present, Parts, no_parts, part, ValueSource, each, results, zeros}
 use Rattle.go_meaning.specs.Values.{Value, flat, is_of, are_of, zero_of}
-use Rattle.go_meaning.specs.Meaning.{World, Gives, Stuck, Locals, Calls, all_given, eval_all, source}
+use Rattle.go_meaning.specs.Meaning.{ProgramState, Gives, Stuck, Locals, Calls, all_given, eval_all, source}
 use Rattle.go_gen.specs.Translation.{Places, zero_code, exprs_code, source_counts, source_temps, source_code}
 use Rattle.go_meaning_laws.proofs.Values.{flat_long}
 use Rattle.go_translation_laws.proofs.Shapes.{both_true}
@@ -40,7 +40,7 @@ zeros_counted [] = refl
 zeros_counted (t ∷ ts) = ap (λ n. n ∷ lengths (map zero_of ts)) (zero_long t) ∙ ap (λ ns. cells t ∷ ns) (zeros_counted ts)
 
 -- values that are given are of these types
-pub onward_all_given : (final : Final) (P : List Value → World → Type 0) (ts : List Type') (vs : List Value) (w : World) → Onward final P (all_given ts vs w) → (are_of ts vs ≡ true) × P vs w
+pub onward_all_given : (final : Final) (P : List Value → ProgramState → Type 0) (ts : List Type') (vs : List Value) (w : ProgramState) → Onward final P (all_given ts vs w) → (are_of ts vs ≡ true) × P vs w
 onward_all_given final P ts vs w h = by_test (are_of ts vs) refl h
   where
     by_test : (b : Bool) → are_of ts vs ≡ b → Onward final P (if b then Gives vs w else Stuck) → (are_of ts vs ≡ true) × P vs w
@@ -48,7 +48,7 @@ onward_all_given final P ts vs w h = by_test (are_of ts vs) refl h
     by_test false e h = absurd h
 
 module _ (image : Image) (final : Final) (depth : ℕ) (code : List (Instr ℕ)) (callers : List Frame) (starts : List Start) (p : Places ℕ) (calls : Calls) where
-  abbrev Onto : ℕ → List (Instr ℕ) → List Cell → ℕ → List Cell → World → Type 0
+  abbrev Onto : ℕ → List (Instr ℕ) → List Cell → ℕ → List Cell → ProgramState → Type 0
   Onto t k front m stack w = On image final depth code callers starts p t k front m stack w
 
   -- calls of all functions are followed
@@ -90,13 +90,13 @@ module _ (image : Image) (final : Final) (depth : ℕ) (code : List (Instr ℕ))
   -- ---- values that are due
 
   -- their cells come on the stack, in order
-  abbrev pub SourceRuns : Source → Type 0
+  abbrev pub SourceRuns : ValueSource → Type 0
   SourceRuns s =
-      (t : ℕ) (locals : Locals) (at : ℕ) (k : List (Instr ℕ)) (front : List Cell) (m : ℕ) (stack : List Cell) (w : World) → length front ≡ at → source_temps s ≤ m → Sits image final depth code callers starts p locals front →
+      (t : ℕ) (locals : Locals) (at : ℕ) (k : List (Instr ℕ)) (front : List Cell) (m : ℕ) (stack : List Cell) (w : ProgramState) → length front ≡ at → source_temps s ≤ m → Sits image final depth code callers starts p locals front →
       Onward final (λ vs w1. lengths vs ≡ source_counts s → Onto t k front m (stack ++ flat_map flat vs) w1) (source calls s locals w) →
       Onto t (source_code p at s ++ k) front m stack w
 
-  zeros_come : (ts : List Type') (t : ℕ) (k : List (Instr ℕ)) (front : List Cell) (m : ℕ) (stack : List Cell) (w : World) → Onto t k front m (stack ++ flat_map flat (map zero_of ts)) w → Onto t (flat_map zero_code ts ++ k) front m stack w
+  zeros_come : (ts : List Type') (t : ℕ) (k : List (Instr ℕ)) (front : List Cell) (m : ℕ) (stack : List Cell) (w : ProgramState) → Onto t k front m (stack ++ flat_map flat (map zero_of ts)) w → Onto t (flat_map zero_code ts ++ k) front m stack w
   zeros_come [] t k front m stack w on = on_stack image final depth code callers starts p t k front m (stack ++ []) stack w (append-nil stack) on
   zeros_come (of ∷ ts) t k front m stack w on =
       on_as image final depth code callers starts p t _ _ front m stack w (sym (append_assoc (zero_code of) (flat_map zero_code ts) k))
@@ -117,7 +117,7 @@ module _ (image : Image) (final : Final) (depth : ℕ) (code : List (Instr ℕ))
       (onward_then final _ (calls s vs w1) _ more)))
       (onward_then final _ (eval_all calls es locals w) _ h)))
 
-  pub source_runs : AllCalled → (s : Source) → SourceRuns s
+  pub source_runs : AllCalled → (s : ValueSource) → SourceRuns s
   source_runs called (each es) t locals at k front m stack w long le sits h = exprs_run called es t locals at k front m stack w long le sits h
   source_runs called (results ts s es) t locals at k front m stack w long le sits h = results_run called ts s es t locals at k front m stack w long le sits h
   source_runs called (zeros ts) t locals at k front m stack w long le sits h = zeros_come ts t k front m stack w (h (zeros_counted ts))

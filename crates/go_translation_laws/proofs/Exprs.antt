@@ -38,9 +38,9 @@ use Rattle.go_code.proofs.Stands.{Stands, stands_next, stands_at, stands_skip}
 use Rattle.go_typed.specs.declared.expression.Operator.{Operator}
 use Rattle.go_typed.specs.Trees as trees
 use Rattle.go_typed.specs.Trees.{Symbol, Expr, Exprs, no_exprs, some_exprs, expr_type}
-use Rattle.go_meaning.specs.Values.{Value, single, parts, Values, pack, flat, flat_all, is_of, or_else, to_field, part_of, nth}
+use Rattle.go_meaning.specs.Values.{Value, single, parts, Values, pack_values, flat, flat_all, is_of, or_else, to_field, part_of, nth}
 use Rattle.go_meaning.specs.Choices.{cell_of, field_at, operated, unary_operators, binary_operators, conversion_operators, length_operators, capacity_operators}
-use Rattle.go_meaning.specs.Meaning.{World, Outcome, Gives, Ends, Stuck, Locals, Calls, and_then, given, selected, indexed, elements, found, all_given, one_value, if_true, eval, eval_all}
+use Rattle.go_meaning.specs.Meaning.{ProgramState, Outcome, Gives, Ends, Stuck, Locals, Calls, and_then, typed_or_panic, selected, indexed, elements_of_slice, found, all_given, one_value, if_true, eval, eval_all}
 use Rattle.go_gen.specs.Translation.{Places, offset, field_offset, index_code, expr_temps, exprs_temps, expr_counts, operators_code, expr_code, exprs_code}
 use Rattle.go_meaning_laws.proofs.Values.{flat_long}
 use Rattle.go_translation_laws.proofs.RowLemmas.{rows}
@@ -54,7 +54,7 @@ abbrev pub lengths : List Value → List ℕ
 lengths vs = map (λ v. length (flat v)) vs
 
 module _ (image : Image) (final : Final) (depth : ℕ) (code : List (Instr ℕ)) (callers : List Frame) (starts : List Start) (p : Places ℕ) where
-  abbrev Onto : ℕ → List (Instr ℕ) → List Cell → ℕ → List Cell → World → Type 0
+  abbrev Onto : ℕ → List (Instr ℕ) → List Cell → ℕ → List Cell → ProgramState → Type 0
   Onto t k front m stack w = On image final depth code callers starts p t k front m stack w
 
   abbrev InPlace : Locals → List Cell → Type 0
@@ -65,14 +65,14 @@ module _ (image : Image) (final : Final) (depth : ℕ) (code : List (Instr ℕ))
   halves : (m d : ℕ) (high : List Cell) → length high ≡ m → d ≤ m → (length (take d high) ≡ d) × (length (drop d high) ≡ m - d)
   halves m d high long le = (length-take-le d high (omega (arith, long, le)), length-drop d high ∙ ap (λ n. n - d) long)
 
-  pub deeper : (t : ℕ) (k : List (Instr ℕ)) (front : List Cell) (m d : ℕ) (stack : List Cell) (w : World) → d ≤ m → ((low : List Cell) → length low ≡ d → Onto t k (front ++ low) (m - d) stack w) → Onto t k front m stack w
+  pub deeper : (t : ℕ) (k : List (Instr ℕ)) (front : List Cell) (m d : ℕ) (stack : List Cell) (w : ProgramState) → d ≤ m → ((low : List Cell) → length low ≡ d → Onto t k (front ++ low) (m - d) stack w) → Onto t k front m stack w
   deeper t k front m d stack w le on known few place high long s =
       let h = halves m d high long le in
       subst (λ l. Leads image (here image final depth code callers starts p place l stack w) final)
       (append_assoc front (take d high) (drop d high) ∙ ap (λ l. front ++ l) (take-append-drop d high))
       (on (take d high) h.0 known few place (drop d high) h.1 s)
 
-  pub shallower : (t : ℕ) (k : List (Instr ℕ)) (front low : List Cell) (m d : ℕ) (stack : List Cell) (w : World) → length low ≡ d → d ≤ m → Onto t k front m stack w → Onto t k (front ++ low) (m - d) stack w
+  pub shallower : (t : ℕ) (k : List (Instr ℕ)) (front low : List Cell) (m d : ℕ) (stack : List Cell) (w : ProgramState) → length low ≡ d → d ≤ m → Onto t k front m stack w → Onto t k (front ++ low) (m - d) stack w
   shallower t k front low m d stack w long le on known few place high rest s =
       let size : length (low ++ high) ≡ m = omega (arith, length-append low high, long, rest, le) in
       subst (λ l. Leads image (here image final depth code callers starts p place l stack w) final) (sym (append_assoc front low high)) (on known few place (low ++ high) size s)
@@ -84,14 +84,14 @@ module _ (image : Image) (final : Final) (depth : ℕ) (code : List (Instr ℕ))
   -- ---- jumps over a right side
 
   -- over the one instruction that follows
-  leaves : (t : ℕ) (i : Instr ℕ) (k : List (Instr ℕ)) (front : List Cell) (m : ℕ) (stack : List Cell) (w : World) → Onto t k front m stack w → Onto t (Go_to (Jump 1) ∷ i ∷ k) front m stack w
+  leaves : (t : ℕ) (i : Instr ℕ) (k : List (Instr ℕ)) (front : List Cell) (m : ℕ) (stack : List Cell) (w : ProgramState) → Onto t k front m stack w → Onto t (Go_to (Jump 1) ∷ i ∷ k) front m stack w
   leaves t i k front m stack w on known few place high long s =
       let s1 = stands_next code place _ (i ∷ k) s in
       let s2 = stands_next code (place + 1) i k s1 in
       jump_leads image (here image final depth code callers starts p place (front ++ high) stack w) _ callers 1 final (record { frames = refl; rest = i ∷ k; stands = s }) s2.within
       (on known few (place + 1 + 1) high long s2)
 
-  pushes : (t : ℕ) (b : Bool) (k : List (Instr ℕ)) (front : List Cell) (m : ℕ) (stack : List Cell) (w : World) → Onto t k front m (stack ++ Truth b ∷ []) w → Onto t (In_frame (Push (Truth b)) ∷ k) front m stack w
+  pushes : (t : ℕ) (b : Bool) (k : List (Instr ℕ)) (front : List Cell) (m : ℕ) (stack : List Cell) (w : ProgramState) → Onto t k front m (stack ++ Truth b ∷ []) w → Onto t (In_frame (Push (Truth b)) ∷ k) front m stack w
   pushes t b k front m stack w on known few place high long s =
       push_leads image (here image final depth code callers starts p place (front ++ high) stack w) _ callers (Truth b) k final refl s refl
       (on known few (place + 1) high long (stands_next code place _ k s))
@@ -103,7 +103,7 @@ module _ (image : Image) (final : Final) (depth : ℕ) (code : List (Instr ℕ))
       stands_at code _ _ k e (stands_next code (place + 1 + length right) j k (stands_skip code right (place + 1) (j ∷ k) (stands_next code place i (right ++ j ∷ k) s)))
 
   -- what is behind the left side of && goes on with the right side, or passes it
-  both_goes : (t : ℕ) (b : Bool) (right k : List (Instr ℕ)) (front : List Cell) (m : ℕ) (stack : List Cell) (w : World) → (b ≡ true → Onto t (right ++ Go_to (Jump 1) ∷ In_frame (Push (Truth false)) ∷ k) front m stack w) → (b ≡ false → Onto t k front m (stack ++ Truth false ∷ []) w) → Onto t (Go_to (JumpIfNot (length right + 1)) ∷ (right ++ Go_to (Jump 1) ∷ In_frame (Push (Truth false)) ∷ k)) front m (stack ++ Truth b ∷ []) w
+  both_goes : (t : ℕ) (b : Bool) (right k : List (Instr ℕ)) (front : List Cell) (m : ℕ) (stack : List Cell) (w : ProgramState) → (b ≡ true → Onto t (right ++ Go_to (Jump 1) ∷ In_frame (Push (Truth false)) ∷ k) front m stack w) → (b ≡ false → Onto t k front m (stack ++ Truth false ∷ []) w) → Onto t (Go_to (JumpIfNot (length right + 1)) ∷ (right ++ Go_to (Jump 1) ∷ In_frame (Push (Truth false)) ∷ k)) front m (stack ++ Truth b ∷ []) w
   both_goes t true right k front m stack w goes passes known few place high long s =
       jump_if_not_stays image (here image final depth code callers starts p place (front ++ high) (stack ++ Truth true ∷ []) w) _ callers (length right + 1) stack final (record { frames = refl; rest = _; stands = s }) refl
       (goes refl known few (place + 1) high long (stands_next code place _ _ s))
@@ -112,7 +112,7 @@ module _ (image : Image) (final : Final) (depth : ℕ) (code : List (Instr ℕ))
       jump_if_not_leads image (here image final depth code callers starts p place (front ++ high) (stack ++ Truth false ∷ []) w) _ callers (length right + 1) stack final (record { frames = refl; rest = _; stands = s }) refl s1.within
       (pushes t false k front m stack w (passes refl) known few (place + 1 + (length right + 1)) high long s1)
 
-  either_goes : (t : ℕ) (b : Bool) (right k : List (Instr ℕ)) (front : List Cell) (m : ℕ) (stack : List Cell) (w : World) → (b ≡ false → Onto t (right ++ Go_to (Jump 1) ∷ In_frame (Push (Truth true)) ∷ k) front m stack w) → (b ≡ true → Onto t k front m (stack ++ Truth true ∷ []) w) → Onto t (Go_to (JumpIf (length right + 1)) ∷ (right ++ Go_to (Jump 1) ∷ In_frame (Push (Truth true)) ∷ k)) front m (stack ++ Truth b ∷ []) w
+  either_goes : (t : ℕ) (b : Bool) (right k : List (Instr ℕ)) (front : List Cell) (m : ℕ) (stack : List Cell) (w : ProgramState) → (b ≡ false → Onto t (right ++ Go_to (Jump 1) ∷ In_frame (Push (Truth true)) ∷ k) front m stack w) → (b ≡ true → Onto t k front m (stack ++ Truth true ∷ []) w) → Onto t (Go_to (JumpIf (length right + 1)) ∷ (right ++ Go_to (Jump 1) ∷ In_frame (Push (Truth true)) ∷ k)) front m (stack ++ Truth b ∷ []) w
   either_goes t false right k front m stack w goes passes known few place high long s =
       jump_if_stays image (here image final depth code callers starts p place (front ++ high) (stack ++ Truth false ∷ []) w) _ callers (length right + 1) stack final (record { frames = refl; rest = _; stands = s }) refl
       (goes refl known few (place + 1) high long (stands_next code place _ _ s))
@@ -127,20 +127,20 @@ module _ (image : Image) (final : Final) (depth : ℕ) (code : List (Instr ℕ))
     -- what is behind an expression's meaning is behind its code
     abbrev pub Runs : Expr → Type 0
     Runs e =
-        (t : ℕ) (locals : Locals) (at : ℕ) (k : List (Instr ℕ)) (front : List Cell) (m : ℕ) (stack : List Cell) (w : World) → length front ≡ at → expr_temps e ≤ m → InPlace locals front →
+        (t : ℕ) (locals : Locals) (at : ℕ) (k : List (Instr ℕ)) (front : List Cell) (m : ℕ) (stack : List Cell) (w : ProgramState) → length front ≡ at → expr_temps e ≤ m → InPlace locals front →
         Onward final (λ v w1. is_of (expr_type e) v ≡ true → Onto t k front m (stack ++ flat v) w1) (eval calls e locals w) →
         Onto t (expr_code p at e ++ k) front m stack w
 
     abbrev pub AllRun : Exprs → Type 0
     AllRun es =
-        (t : ℕ) (locals : Locals) (at : ℕ) (k : List (Instr ℕ)) (front : List Cell) (m : ℕ) (stack : List Cell) (w : World) → length front ≡ at → exprs_temps es ≤ m → InPlace locals front →
+        (t : ℕ) (locals : Locals) (at : ℕ) (k : List (Instr ℕ)) (front : List Cell) (m : ℕ) (stack : List Cell) (w : ProgramState) → length front ≡ at → exprs_temps es ≤ m → InPlace locals front →
         Onward final (λ vs w1. lengths vs ≡ expr_counts es → Onto t k front m (stack ++ flat_map flat vs) w1) (eval_all calls es locals w) →
         Onto t (exprs_code p at es ++ k) front m stack w
 
     -- the arguments lie on the stack and the function's results come in their place
     abbrev pub Called : Symbol → Type 0
     Called s =
-        (t : ℕ) (vs : List Value) (k : List (Instr ℕ)) (front : List Cell) (m : ℕ) (stack : List Cell) (w : World) →
+        (t : ℕ) (vs : List Value) (k : List (Instr ℕ)) (front : List Cell) (m : ℕ) (stack : List Cell) (w : ProgramState) →
         Onward final (λ rs w1. Onto t k front m (stack ++ flat_map flat rs) w1) (calls s vs w) →
         Onto t (By_call (Call (p.functions s)) ∷ k) front m (stack ++ flat_map flat vs) w
 
@@ -157,13 +157,13 @@ module _ (image : Image) (final : Final) (depth : ℕ) (code : List (Instr ℕ))
     global_is_run of s t locals at k front m stack w long le sits h = global_runs image final depth code callers starts p t of s k front m stack w h
 
     -- operators on the one value on top
-    one_operand : (t : ℕ) (of : Type') (ops : List operator.Operator) (v : Value) (k : List (Instr ℕ)) (front : List Cell) (m : ℕ) (stack : List Cell) (w : World) → Onward final (λ u w1. is_of of u ≡ true → Onto t k front m (stack ++ flat u) w1) (given of (operated ops (v ∷ [])) w) → Onto t (operators_code ops ++ k) front m (stack ++ flat v) w
+    one_operand : (t : ℕ) (of : Type') (ops : List operator.Operator) (v : Value) (k : List (Instr ℕ)) (front : List Cell) (m : ℕ) (stack : List Cell) (w : ProgramState) → Onward final (λ u w1. is_of of u ≡ true → Onto t k front m (stack ++ flat u) w1) (typed_or_panic of (operated ops (v ∷ [])) w) → Onto t (operators_code ops ++ k) front m (stack ++ flat v) w
     one_operand t of ops v k front m stack w h =
         on_stack image final depth code callers starts p t (operators_code ops ++ k) front m _ _ w (ap (λ l. stack ++ l) (append-nil (flat v)))
         (operators_run image final depth code callers starts p t of ops (v ∷ []) k front m stack w h)
 
     -- an expression, and operators on its value
-    operated_run : (e : Expr) (of : Type') (ops : List operator.Operator) → Runs e → (t : ℕ) (locals : Locals) (at : ℕ) (k : List (Instr ℕ)) (front : List Cell) (m : ℕ) (stack : List Cell) (w : World) → length front ≡ at → expr_temps e ≤ m → InPlace locals front → Onward final (λ u w1. is_of of u ≡ true → Onto t k front m (stack ++ flat u) w1) (and_then (eval calls e locals w) (λ v. given of (operated ops (v ∷ [])))) → Onto t ((expr_code p at e ++ operators_code ops) ++ k) front m stack w
+    operated_run : (e : Expr) (of : Type') (ops : List operator.Operator) → Runs e → (t : ℕ) (locals : Locals) (at : ℕ) (k : List (Instr ℕ)) (front : List Cell) (m : ℕ) (stack : List Cell) (w : ProgramState) → length front ≡ at → expr_temps e ≤ m → InPlace locals front → Onward final (λ u w1. is_of of u ≡ true → Onto t k front m (stack ++ flat u) w1) (and_then (eval calls e locals w) (λ v. typed_or_panic of (operated ops (v ∷ [])))) → Onto t ((expr_code p at e ++ operators_code ops) ++ k) front m stack w
     operated_run e of ops runs t locals at k front m stack w long le sits h =
         on_as image final depth code callers starts p t _ _ front m stack w (sym (append_assoc (expr_code p at e) (operators_code ops) k))
         (runs t locals at (operators_code ops ++ k) front m stack w long le sits
@@ -182,7 +182,7 @@ module _ (image : Image) (final : Final) (depth : ℕ) (code : List (Instr ℕ))
     conversion_runs of e runs t locals at k front m stack w long le sits h = operated_run e of (conversion_operators (underlying of)) runs t locals at k front m stack w long le sits h
 
     -- a second expression, behind the first one's temporaries
-    pub second_runs : (b : Expr) (d : ℕ) → Runs b → (t : ℕ) (locals : Locals) (at : ℕ) (k : List (Instr ℕ)) (front : List Cell) (m : ℕ) (stack : List Cell) (w : World) → length front ≡ at → d + expr_temps b ≤ m → InPlace locals front → Onward final (λ v w1. is_of (expr_type b) v ≡ true → Onto t k front m (stack ++ flat v) w1) (eval calls b locals w) → Onto t (expr_code p (at + d) b ++ k) front m stack w
+    pub second_runs : (b : Expr) (d : ℕ) → Runs b → (t : ℕ) (locals : Locals) (at : ℕ) (k : List (Instr ℕ)) (front : List Cell) (m : ℕ) (stack : List Cell) (w : ProgramState) → length front ≡ at → d + expr_temps b ≤ m → InPlace locals front → Onward final (λ v w1. is_of (expr_type b) v ≡ true → Onto t k front m (stack ++ flat v) w1) (eval calls b locals w) → Onto t (expr_code p (at + d) b ++ k) front m stack w
     second_runs b d runs t locals at k front m stack w long le sits h =
         let within : d ≤ m = omega (arith, le) in
         deeper t (expr_code p (at + d) b ++ k) front m d stack w within (λ low size.
@@ -218,7 +218,7 @@ module _ (image : Image) (final : Final) (depth : ℕ) (code : List (Instr ℕ))
         (λ v w1 more typed. others_run e es others t locals at k front m stack v w1 long le sits (flat_long (expr_type e) v typed) (onward_then final _ (eval_all calls es locals w1) _ more))
         (onward_then final _ (eval calls e locals w) _ h)))
       where
-        others_run : (e : Expr) (es : Exprs) → AllRun es → (t : ℕ) (locals : Locals) (at : ℕ) (k : List (Instr ℕ)) (front : List Cell) (m : ℕ) (stack : List Cell) (v : Value) (w : World) → length front ≡ at → expr_temps e + exprs_temps es ≤ m → InPlace locals front → length (flat v) ≡ cells (expr_type e) → Onward final (λ vs w1. length (flat v) ∷ lengths vs ≡ expr_counts (some_exprs e es) → Onto t k front m (stack ++ (flat v ++ flat_map flat vs)) w1) (eval_all calls es locals w) → Onto t (exprs_code p (at + expr_temps e) es ++ k) front m (stack ++ flat v) w
+        others_run : (e : Expr) (es : Exprs) → AllRun es → (t : ℕ) (locals : Locals) (at : ℕ) (k : List (Instr ℕ)) (front : List Cell) (m : ℕ) (stack : List Cell) (v : Value) (w : ProgramState) → length front ≡ at → expr_temps e + exprs_temps es ≤ m → InPlace locals front → length (flat v) ≡ cells (expr_type e) → Onward final (λ vs w1. length (flat v) ∷ lengths vs ≡ expr_counts (some_exprs e es) → Onto t k front m (stack ++ (flat v ++ flat_map flat vs)) w1) (eval_all calls es locals w) → Onto t (exprs_code p (at + expr_temps e) es ++ k) front m (stack ++ flat v) w
         others_run e es others t locals at k front m stack v w long le sits one h =
             let d : ℕ = expr_temps e in
             let within : d ≤ m = omega (arith, le) in
@@ -241,7 +241,7 @@ module _ (image : Image) (final : Final) (depth : ℕ) (code : List (Instr ℕ))
         (onward_then final _ (calls s vs w1) _ more)))
         (onward_then final _ (eval_all calls es locals w) _ h)))
       where
-        one_result : (of : Type') (rs : List Value) (t : ℕ) (k : List (Instr ℕ)) (front : List Cell) (m : ℕ) (stack : List Cell) (w : World) → Onward final (λ v w1. is_of of v ≡ true → Onto t k front m (stack ++ flat v) w1) (and_then (all_given (of ∷ []) rs w) one_value) → Onto t k front m (stack ++ flat_map flat rs) w
+        one_result : (of : Type') (rs : List Value) (t : ℕ) (k : List (Instr ℕ)) (front : List Cell) (m : ℕ) (stack : List Cell) (w : ProgramState) → Onward final (λ v w1. is_of of v ≡ true → Onto t k front m (stack ++ flat v) w1) (and_then (all_given (of ∷ []) rs w) one_value) → Onto t k front m (stack ++ flat_map flat rs) w
         one_result of [] t k front m stack w h = absurd h
         one_result of (v ∷ []) t k front m stack w h = by_test (is_of of v) refl h
           where
@@ -260,7 +260,7 @@ module _ (image : Image) (final : Final) (depth : ℕ) (code : List (Instr ℕ))
     decided_shape jump answer left right k = simp append_assoc
 
     -- the right side's value is the answer
-    right_runs : (of : Type') (answer : Bool) (b : Expr) (d : ℕ) → Runs b → (t : ℕ) (locals : Locals) (at : ℕ) (k : List (Instr ℕ)) (front : List Cell) (m : ℕ) (stack : List Cell) (w : World) → length front ≡ at → d + expr_temps b ≤ m → InPlace locals front → Onward final (λ v w1. is_of of v ≡ true → Onto t k front m (stack ++ flat v) w1) (and_then (eval calls b locals w) (λ y. given of (operators.Gives y))) → Onto t (expr_code p (at + d) b ++ Go_to (Jump 1) ∷ In_frame (Push (Truth answer)) ∷ k) front m stack w
+    right_runs : (of : Type') (answer : Bool) (b : Expr) (d : ℕ) → Runs b → (t : ℕ) (locals : Locals) (at : ℕ) (k : List (Instr ℕ)) (front : List Cell) (m : ℕ) (stack : List Cell) (w : ProgramState) → length front ≡ at → d + expr_temps b ≤ m → InPlace locals front → Onward final (λ v w1. is_of of v ≡ true → Onto t k front m (stack ++ flat v) w1) (and_then (eval calls b locals w) (λ y. typed_or_panic of (operators.Gives y))) → Onto t (expr_code p (at + d) b ++ Go_to (Jump 1) ∷ In_frame (Push (Truth answer)) ∷ k) front m stack w
     right_runs of answer b d runs t locals at k front m stack w long le sits h =
         second_runs b d runs t locals at (Go_to (Jump 1) ∷ In_frame (Push (Truth answer)) ∷ k) front m stack w long le sits
         (onward_map final _ _ (eval calls b locals w)
@@ -269,7 +269,7 @@ module _ (image : Image) (final : Final) (depth : ℕ) (code : List (Instr ℕ))
         leaves t (In_frame (Push (Truth answer))) k front m (stack ++ flat y) w1 (g.1 g.0))
         (onward_then final _ (eval calls b locals w) _ h))
 
-    behind_both : (of : Type') (b : Expr) (d : ℕ) → Runs b → (x : Value) (t : ℕ) (locals : Locals) (at : ℕ) (k : List (Instr ℕ)) (front : List Cell) (m : ℕ) (stack : List Cell) (w : World) → length front ≡ at → d + expr_temps b ≤ m → InPlace locals front → Onward final (λ v w1. is_of of v ≡ true → Onto t k front m (stack ++ flat v) w1) (and_then (if_true x (eval calls b locals w) (Gives x w)) (λ y. given of (operators.Gives y))) → Onto t (Go_to (JumpIfNot (length (expr_code p (at + d) b) + 1)) ∷ (expr_code p (at + d) b ++ Go_to (Jump 1) ∷ In_frame (Push (Truth false)) ∷ k)) front m (stack ++ flat x) w
+    behind_both : (of : Type') (b : Expr) (d : ℕ) → Runs b → (x : Value) (t : ℕ) (locals : Locals) (at : ℕ) (k : List (Instr ℕ)) (front : List Cell) (m : ℕ) (stack : List Cell) (w : ProgramState) → length front ≡ at → d + expr_temps b ≤ m → InPlace locals front → Onward final (λ v w1. is_of of v ≡ true → Onto t k front m (stack ++ flat v) w1) (and_then (if_true x (eval calls b locals w) (Gives x w)) (λ y. typed_or_panic of (operators.Gives y))) → Onto t (Go_to (JumpIfNot (length (expr_code p (at + d) b) + 1)) ∷ (expr_code p (at + d) b ++ Go_to (Jump 1) ∷ In_frame (Push (Truth false)) ∷ k)) front m (stack ++ flat x) w
     behind_both of b d runs (single (Truth true)) t locals at k front m stack w long le sits h =
         both_goes t true (expr_code p (at + d) b) k front m stack w (λ e. right_runs of false b d runs t locals at k front m stack w long le sits h) (λ e. cc)
     behind_both of b d runs (single (Truth false)) t locals at k front m stack w long le sits h =
@@ -289,7 +289,7 @@ module _ (image : Image) (final : Final) (depth : ℕ) (code : List (Instr ℕ))
         (λ x w1 more typed. behind_both of b (expr_temps a) second x t locals at k front m stack w1 long le sits more)
         (onward_then final _ (eval calls a locals w) _ h)))
 
-    behind_either : (of : Type') (b : Expr) (d : ℕ) → Runs b → (x : Value) (t : ℕ) (locals : Locals) (at : ℕ) (k : List (Instr ℕ)) (front : List Cell) (m : ℕ) (stack : List Cell) (w : World) → length front ≡ at → d + expr_temps b ≤ m → InPlace locals front → Onward final (λ v w1. is_of of v ≡ true → Onto t k front m (stack ++ flat v) w1) (and_then (if_true x (Gives x w) (eval calls b locals w)) (λ y. given of (operators.Gives y))) → Onto t (Go_to (JumpIf (length (expr_code p (at + d) b) + 1)) ∷ (expr_code p (at + d) b ++ Go_to (Jump 1) ∷ In_frame (Push (Truth true)) ∷ k)) front m (stack ++ flat x) w
+    behind_either : (of : Type') (b : Expr) (d : ℕ) → Runs b → (x : Value) (t : ℕ) (locals : Locals) (at : ℕ) (k : List (Instr ℕ)) (front : List Cell) (m : ℕ) (stack : List Cell) (w : ProgramState) → length front ≡ at → d + expr_temps b ≤ m → InPlace locals front → Onward final (λ v w1. is_of of v ≡ true → Onto t k front m (stack ++ flat v) w1) (and_then (if_true x (Gives x w) (eval calls b locals w)) (λ y. typed_or_panic of (operators.Gives y))) → Onto t (Go_to (JumpIf (length (expr_code p (at + d) b) + 1)) ∷ (expr_code p (at + d) b ++ Go_to (Jump 1) ∷ In_frame (Push (Truth true)) ∷ k)) front m (stack ++ flat x) w
     behind_either of b d runs (single (Truth false)) t locals at k front m stack w long le sits h =
         either_goes t false (expr_code p (at + d) b) k front m stack w (λ e. right_runs of true b d runs t locals at k front m stack w long le sits h) (λ e. cc)
     behind_either of b d runs (single (Truth true)) t locals at k front m stack w long le sits h =
@@ -311,24 +311,24 @@ module _ (image : Image) (final : Final) (depth : ℕ) (code : List (Instr ℕ))
 
     -- ---- parts of values
 
-    part_runs : (t : ℕ) (i : PartInstr) (row got : List Cell) (k : List (Instr ℕ)) (front : List Cell) (m : ℕ) (stack : List Cell) (w : World) → length row ≡ part_cells i → part i row ≡ operators.Gives got → Onto t k front m (stack ++ got) w → Onto t (On_part i ∷ k) front m (stack ++ row) w
+    part_runs : (t : ℕ) (i : PartInstr) (row got : List Cell) (k : List (Instr ℕ)) (front : List Cell) (m : ℕ) (stack : List Cell) (w : ProgramState) → length row ≡ part_cells i → part i row ≡ operators.Gives got → Onto t k front m (stack ++ got) w → Onto t (On_part i ∷ k) front m (stack ++ row) w
     part_runs t i row got k front m stack w long e on known few place high size s =
         part_leads image (here image final depth code callers starts p place (front ++ high) (stack ++ row) w) _ callers i stack row got final (record { frames = refl; rest = k; stands = s }) (record { is = refl; long = long }) e
         (on known few (place + 1) high size (stands_next code place _ k s))
 
-    part_ends : (t : ℕ) (i : PartInstr) (row : List Cell) (kind : PanicKind) (k : List (Instr ℕ)) (front : List Cell) (m : ℕ) (stack : List Cell) (w : World) → length row ≡ part_cells i → part i row ≡ operators.Panics kind → final ≡ Ends_with (Panicked kind) w.output → Onto t (On_part i ∷ k) front m (stack ++ row) w
+    part_ends : (t : ℕ) (i : PartInstr) (row : List Cell) (kind : PanicKind) (k : List (Instr ℕ)) (front : List Cell) (m : ℕ) (stack : List Cell) (w : ProgramState) → length row ≡ part_cells i → part i row ≡ operators.Panics kind → final ≡ Ends_with (Panicked kind) w.output → Onto t (On_part i ∷ k) front m (stack ++ row) w
     part_ends t i row kind k front m stack w long e over known few place high size s =
         subst (Leads image (here image final depth code callers starts p place (front ++ high) (stack ++ row) w)) (sym over)
         (part_panics image (here image final depth code callers starts p place (front ++ high) (stack ++ row) w) _ callers i stack row kind (record { frames = refl; rest = k; stands = s }) (record { is = refl; long = long }) e)
 
     -- a field that is selected, and how its cells are read
-    record Selects (P : Value → World → Type 0) (s : Type') (v : Value) (of : Type') (n : ℕ) (w : World) : Type 0 where
+    record Selects (P : Value → ProgramState → Type 0) (s : Type') (v : Value) (of : Type') (n : ℕ) (w : ProgramState) : Type 0 where
       x : Value
       typed : is_of of x ≡ true
       holds : P x w
       read : (whole : ℕ) → length (flat v) ≡ whole → part (Part whole (offset s n) (cells of)) (flat v) ≡ operators.Gives (flat x)
 
-    field_selects : (P : Value → World → Type 0) (fs : Fields) (vs : Values) (of : Type') (n : ℕ) (w : World) (o : Option Value) → nth vs n ≡ o → is_of (struct fs) (parts vs) ≡ true → Onward final P (given of (or_else operators.Senseless o) w) → Selects P (struct fs) (parts vs) of n w
+    field_selects : (P : Value → ProgramState → Type 0) (fs : Fields) (vs : Values) (of : Type') (n : ℕ) (w : ProgramState) (o : Option Value) → nth vs n ≡ o → is_of (struct fs) (parts vs) ≡ true → Onward final P (typed_or_panic of (or_else operators.Senseless o) w) → Selects P (struct fs) (parts vs) of n w
     field_selects P fs vs of n w None e typed h = absurd h
     field_selects P fs vs of n w (Some x) e typed h =
         let g = onward_given final P of x w h in
@@ -342,14 +342,14 @@ module _ (image : Image) (final : Final) (depth : ℕ) (code : List (Instr ℕ))
               ∙ part_reads whole (field_offset fs n) (cells of) at.before (flat x) at.after (sym (ap length at.is) ∙ long) at.place (flat_long of x g.0);
         }
 
-    struct_selects : (P : Value → World → Type 0) (fs : Fields) (v : Value) (of : Type') (n : ℕ) (w : World) (o : Option Type') → field_at fs n ≡ o → is_of (struct fs) v ≡ true → Onward final P (given of (selected (struct fs) v n) w) → Selects P (struct fs) v of n w
+    struct_selects : (P : Value → ProgramState → Type 0) (fs : Fields) (v : Value) (of : Type') (n : ℕ) (w : ProgramState) (o : Option Type') → field_at fs n ≡ o → is_of (struct fs) v ≡ true → Onward final P (typed_or_panic of (selected (struct fs) v n) w) → Selects P (struct fs) v of n w
     struct_selects P fs v of n w None found typed h =
-        absurd (subst (λ o. Onward final P (given of (elim o [ None ↦ operators.Senseless | Some t ↦ part_of v (to_field n) ]) w)) found h)
+        absurd (subst (λ o. Onward final P (typed_or_panic of (elim o [ None ↦ operators.Senseless | Some t ↦ part_of v (to_field n) ]) w)) found h)
     struct_selects P fs (single c) of n w (Some u) found typed h = cc
     struct_selects P fs (parts vs) of n w (Some u) found typed h =
-        field_selects P fs vs of n w (nth vs n) refl typed (subst (λ o. Onward final P (given of (elim o [ None ↦ operators.Senseless | Some t ↦ part_of (parts vs) (to_field n) ]) w)) found h)
+        field_selects P fs vs of n w (nth vs n) refl typed (subst (λ o. Onward final P (typed_or_panic of (elim o [ None ↦ operators.Senseless | Some t ↦ part_of (parts vs) (to_field n) ]) w)) found h)
 
-    selects : (P : Value → World → Type 0) (s : Type') (v : Value) (of : Type') (n : ℕ) (w : World) → is_of s v ≡ true → Onward final P (given of (selected s v n) w) → Selects P s v of n w
+    selects : (P : Value → ProgramState → Type 0) (s : Type') (v : Value) (of : Type') (n : ℕ) (w : ProgramState) → is_of s v ≡ true → Onward final P (typed_or_panic of (selected s v n) w) → Selects P s v of n w
     selects P (basic b) v of n w typed h = absurd h
     selects P (array m t) v of n w typed h = absurd h
     selects P (slice t) v of n w typed h = absurd h
@@ -370,7 +370,7 @@ module _ (image : Image) (final : Final) (depth : ℕ) (code : List (Instr ℕ))
         (onward_then final _ (eval calls e locals w) _ h)))
 
     -- an element of an array, whose cells lie below the index
-    element_runs : (of u : Type') (count : ℕ) (vs : Values) (n : ℕ) (o : Option Value) → nth vs n ≡ o → is_of (array count u) (parts vs) ≡ true → (t : ℕ) (k : List (Instr ℕ)) (front : List Cell) (m : ℕ) (stack : List Cell) (w : World) → Onward final (λ x w1. is_of of x ≡ true → Onto t k front m (stack ++ flat x) w1) (given of (or_else (operators.Panics Out_of_range) o) w) → Onto t (On_part (Pick count (cells u)) ∷ k) front m (stack ++ (flat_all vs ++ Int (pos n) ∷ [])) w
+    element_runs : (of u : Type') (count : ℕ) (vs : Values) (n : ℕ) (o : Option Value) → nth vs n ≡ o → is_of (array count u) (parts vs) ≡ true → (t : ℕ) (k : List (Instr ℕ)) (front : List Cell) (m : ℕ) (stack : List Cell) (w : ProgramState) → Onward final (λ x w1. is_of of x ≡ true → Onto t k front m (stack ++ flat x) w1) (typed_or_panic of (or_else (operators.Panics Out_of_range) o) w) → Onto t (On_part (Pick count (cells u)) ∷ k) front m (stack ++ (flat_all vs ++ Int (pos n) ∷ [])) w
     element_runs of u count vs n None e typed t k front m stack w h =
         let long : length (flat_all vs ++ Int (pos n) ∷ []) ≡ count * cells u + 1 = omega (arith, length-append (flat_all vs) (Int (pos n) ∷ []), flat_long (array count u) (parts vs) typed) in
         part_ends t (Pick count (cells u)) (flat_all vs ++ Int (pos n) ∷ []) Out_of_range k front m stack w long (element_missed count u vs n typed e) h
@@ -380,13 +380,13 @@ module _ (image : Image) (final : Final) (depth : ℕ) (code : List (Instr ℕ))
         part_runs t (Pick count (cells u)) (flat_all vs ++ Int (pos n) ∷ []) (flat x) k front m stack w long (element_picked count u vs n x typed e) (g.1 g.0)
 
     -- a byte of a text
-    text_runs : (of : Type') (v j : Value) (t : ℕ) (k : List (Instr ℕ)) (front : List Cell) (m : ℕ) (stack : List Cell) (w : World) → Onward final (λ x w1. is_of of x ≡ true → Onto t k front m (stack ++ flat x) w1) (given of (operated (operator_variants.Text At ∷ []) (v ∷ j ∷ [])) w) → Onto t (operators_code (operator_variants.Text At ∷ []) ++ k) front m (stack ++ (flat v ++ flat j)) w
+    text_runs : (of : Type') (v j : Value) (t : ℕ) (k : List (Instr ℕ)) (front : List Cell) (m : ℕ) (stack : List Cell) (w : ProgramState) → Onward final (λ x w1. is_of of x ≡ true → Onto t k front m (stack ++ flat x) w1) (typed_or_panic of (operated (operator_variants.Text At ∷ []) (v ∷ j ∷ [])) w) → Onto t (operators_code (operator_variants.Text At ∷ []) ++ k) front m (stack ++ (flat v ++ flat j)) w
     text_runs of v j t k front m stack w h =
         on_stack image final depth code callers starts p t (operators_code (operator_variants.Text At ∷ []) ++ k) front m _ _ w (ap (λ l. stack ++ (flat v ++ l)) (append-nil (flat j)))
         (operators_run image final depth code callers starts p t of (operator_variants.Text At ∷ []) (v ∷ j ∷ []) k front m stack w h)
 
     -- what rows give, or a panic
-    pub told_runs : (t : ℕ) (i : RowInstr) (cells : List Cell) (o : Outcome Value) (k : List (Instr ℕ)) (front : List Cell) (m : ℕ) (stack : List Cell) (w : World) → length cells ≡ row_cells i →
+    pub told_runs : (t : ℕ) (i : RowInstr) (cells : List Cell) (o : Outcome Value) (k : List (Instr ℕ)) (front : List Cell) (m : ℕ) (stack : List Cell) (w : ProgramState) → length cells ≡ row_cells i →
         Tells o w (row_step i (rows w.arrays) cells) → Onward final (λ v w1. Onto t k front m (stack ++ flat v) w1) o → Onto t (In_row i ∷ k) front m (stack ++ cells) w
     told_runs t i cells (Gives v w1) k front m stack w long tells on known few place high size s =
         row_leads image (here image final depth code callers starts p place (front ++ high) (stack ++ cells) w) _ callers i stack cells (record { rows = rows w1.arrays; cells = flat v }) final
@@ -401,7 +401,7 @@ module _ (image : Image) (final : Final) (depth : ℕ) (code : List (Instr ℕ))
     told_runs t i cells Stuck k front m stack w long tells h known few place high size s = absurd h
 
     -- what is given is of the type
-    given_typed : (P : Value → World → Type 0) (of : Type') (o : operators.Operated Value) (w : World) → Onward final (λ x w1. is_of of x ≡ true → P x w1) (given of o w) → Onward final P (given of o w)
+    given_typed : (P : Value → ProgramState → Type 0) (of : Type') (o : operators.Operated Value) (w : ProgramState) → Onward final (λ x w1. is_of of x ≡ true → P x w1) (typed_or_panic of o w) → Onward final P (typed_or_panic of o w)
     given_typed P of (operators.Gives x) w h = by_test (is_of of x) refl h
       where
         by_test : (b : Bool) → is_of of x ≡ b → Onward final (λ y w1. is_of of y ≡ true → P y w1) (if b then Gives x w else Stuck) → Onward final P (if b then Gives x w else Stuck)
@@ -410,7 +410,7 @@ module _ (image : Image) (final : Final) (depth : ℕ) (code : List (Instr ℕ))
     given_typed P of (operators.Panics kind) w h = h
     given_typed P of operators.Senseless w h = absurd h
 
-    then_typed : (P : Value → World → Type 0) (of : Type') (o : Outcome Value) (f : Value → operators.Operated Value) → Onward final (λ x w1. is_of of x ≡ true → P x w1) (and_then o (λ v. given of (f v))) → Onward final P (and_then o (λ v. given of (f v)))
+    then_typed : (P : Value → ProgramState → Type 0) (of : Type') (o : Outcome Value) (f : Value → operators.Operated Value) → Onward final (λ x w1. is_of of x ≡ true → P x w1) (and_then o (λ v. typed_or_panic of (f v))) → Onward final P (and_then o (λ v. typed_or_panic of (f v)))
     then_typed P of (Gives v w) f h = given_typed P of (f v) w h
     then_typed P of (Ends ending output) f h = h
     then_typed P of Stuck f h = absurd h
@@ -421,36 +421,36 @@ module _ (image : Image) (final : Final) (depth : ℕ) (code : List (Instr ℕ))
     EndsNot (Ends ending output) = ⊥
     EndsNot Stuck = Unit {0}
 
-    stuck : {A : Type 0} (P : Value → World → Type 0) (of : Type') (o : Outcome Value) → EndsNot o → Onward final P (and_then o (λ v. given of operators.Senseless)) → A
+    stuck : {A : Type 0} (P : Value → ProgramState → Type 0) (of : Type') (o : Outcome Value) → EndsNot o → Onward final P (and_then o (λ v. typed_or_panic of operators.Senseless)) → A
     stuck P of (Gives v w) never h = absurd h
     stuck P of (Ends ending output) never h = absurd never
     stuck P of Stuck never h = absurd h
 
-    elements_never : (u : Type') (at start n c : ℕ) (w : World) → EndsNot (elements u (single (Slice at start n c)) w)
+    elements_never : (u : Type') (at start n c : ℕ) (w : ProgramState) → EndsNot (elements_of_slice u (single (Slice at start n c)) w)
     elements_never u at start n c w =
         let all : List Value = row_of w.arrays at in
         by_test (list_all (is_of u) all && (nat_le n c && (nat_le (start + c) (length all) && has_room (cells u) (length all))))
       where
-        by_test : (b : Bool) → EndsNot (and_then (if b then Gives (row_of w.arrays at) w else Stuck) (λ all. Gives (parts (pack (take n (drop start all))))))
+        by_test : (b : Bool) → EndsNot (and_then (if b then Gives (row_of w.arrays at) w else Stuck) (λ all. Gives (parts (pack_values (take n (drop start all))))))
         by_test true = tt
         by_test false = tt
 
     -- an element of a slice
-    slice_runs : (of u : Type') (v j : Value) (t : ℕ) (k : List (Instr ℕ)) (front : List Cell) (m : ℕ) (stack : List Cell) (w : World) → Onward final (λ x w1. is_of of x ≡ true → Onto t k front m (stack ++ flat x) w1) (found of (slice u) v j w) →
+    slice_runs : (of u : Type') (v j : Value) (t : ℕ) (k : List (Instr ℕ)) (front : List Cell) (m : ℕ) (stack : List Cell) (w : ProgramState) → Onward final (λ x w1. is_of of x ≡ true → Onto t k front m (stack ++ flat x) w1) (found of (slice u) v j w) →
         Onto t (In_row (Get (cells u)) ∷ k) front m (stack ++ (flat v ++ flat j)) w
     slice_runs of u (single (Slice at start n c)) (single (Int z)) t k front m stack w h =
         told_runs t (Get (cells u)) (Slice at start n c ∷ Int z ∷ []) (found of (slice u) (single (Slice at start n c)) (single (Int z)) w) k front m stack w refl (get_tells u of (λ x e. flat_long u x e) at start n c w z)
-        (then_typed (λ x w1. Onto t k front m (stack ++ flat x) w1) of (elements u (single (Slice at start n c)) w) (λ whole. indexed (slice u) whole (single (Int z))) h)
+        (then_typed (λ x w1. Onto t k front m (stack ++ flat x) w1) of (elements_of_slice u (single (Slice at start n c)) w) (λ whole. indexed (slice u) whole (single (Int z))) h)
     slice_runs of u (single (Int y)) j t k front m stack w h = absurd h
     slice_runs of u (single (Truth b)) j t k front m stack w h = absurd h
     slice_runs of u (single (Text x)) j t k front m stack w h = absurd h
     slice_runs of u (parts vs) j t k front m stack w h = absurd h
-    slice_runs of u (single (Slice at start n c)) (single (Truth b)) t k front m stack w h = stuck _ of (elements u (single (Slice at start n c)) w) (elements_never u at start n c w) h
-    slice_runs of u (single (Slice at start n c)) (single (Text x)) t k front m stack w h = stuck _ of (elements u (single (Slice at start n c)) w) (elements_never u at start n c w) h
-    slice_runs of u (single (Slice at start n c)) (single (Slice r s l d)) t k front m stack w h = stuck _ of (elements u (single (Slice at start n c)) w) (elements_never u at start n c w) h
-    slice_runs of u (single (Slice at start n c)) (parts vs) t k front m stack w h = stuck _ of (elements u (single (Slice at start n c)) w) (elements_never u at start n c w) h
+    slice_runs of u (single (Slice at start n c)) (single (Truth b)) t k front m stack w h = stuck _ of (elements_of_slice u (single (Slice at start n c)) w) (elements_never u at start n c w) h
+    slice_runs of u (single (Slice at start n c)) (single (Text x)) t k front m stack w h = stuck _ of (elements_of_slice u (single (Slice at start n c)) w) (elements_never u at start n c w) h
+    slice_runs of u (single (Slice at start n c)) (single (Slice r s l d)) t k front m stack w h = stuck _ of (elements_of_slice u (single (Slice at start n c)) w) (elements_never u at start n c w) h
+    slice_runs of u (single (Slice at start n c)) (parts vs) t k front m stack w h = stuck _ of (elements_of_slice u (single (Slice at start n c)) w) (elements_never u at start n c w) h
 
-    indexed_runs : (of s : Type') (v j : Value) → is_of s v ≡ true → (t : ℕ) (k : List (Instr ℕ)) (front : List Cell) (m : ℕ) (stack : List Cell) (w : World) → Onward final (λ x w1. is_of of x ≡ true → Onto t k front m (stack ++ flat x) w1) (found of s v j w) → Onto t (index_code s ++ k) front m (stack ++ (flat v ++ flat j)) w
+    indexed_runs : (of s : Type') (v j : Value) → is_of s v ≡ true → (t : ℕ) (k : List (Instr ℕ)) (front : List Cell) (m : ℕ) (stack : List Cell) (w : ProgramState) → Onward final (λ x w1. is_of of x ≡ true → Onto t k front m (stack ++ flat x) w1) (found of s v j w) → Onto t (index_code s ++ k) front m (stack ++ (flat v ++ flat j)) w
     indexed_runs of (array count u) (single c) j typed t k front m stack w h = cc
     indexed_runs of (array count u) (parts vs) (single (Int (pos n))) typed t k front m stack w h = element_runs of u count vs n (nth vs n) refl typed t k front m stack w h
     indexed_runs of (array count u) (parts vs) (single (Int (negsuc n))) typed t k front m stack w h =

@@ -13,28 +13,28 @@ use Rattle.go_types.specs.Sizes.{cells}
 use Rattle.go_code.specs.declared.cell.Cell.{Cell}
 use Rattle.go_code.specs.Lines.{cell_fits}
 use Rattle.go_code.specs.Packages.{PackageVariable}
-use Rattle.go_link.specs.Links.{Held, symbol_of as code_symbol, variables, place_in}
+use Rattle.go_link.specs.Links.{LinkedVariable, object_symbol as code_symbol, variables, first_cell_of}
 use Rattle.go_typed.specs.Trees.{Symbol, Variable, Package}
-use Rattle.go_meaning.specs.Values.{Value, pack, flat, flat_all, zero_of, zeros_of}
+use Rattle.go_meaning.specs.Values.{Value, pack_values, flat, flat_all, zero_of, zeros_of}
 use Rattle.go_symbol.specs.Symbols.{same_symbol}
 use Rattle.go_meaning.specs.Meaning.{Stored}
-use Rattle.go_meaning.specs.Programs.{symbol_of, first_variables}
+use Rattle.go_meaning.specs.Programs.{package_symbol, first_variables}
 use Rattle.go_gen.specs.Translation.{symbol_code, translated_variable, object_of}
 use Rattle.go_translation_laws.proofs.Runs.{Sized, held, global_at}
 use Rattle.go_translation_laws.proofs.Zeros.{zero_fits, zero_long}
 
 -- a package's variable, at its zero value
 abbrev pub stored_first : Package → Variable → Stored
-stored_first typed v = record { symbol = symbol_of typed v.name; of = v.of; value = zero_of v.of }
+stored_first typed v = record { symbol = package_symbol typed v.name; of = v.of; value = zero_of v.of }
 
 -- ---- the machine knows their cells
 
 both_fit : (xs ys : List Cell) → list_all cell_fits xs ≡ true → list_all cell_fits ys ≡ true → list_all cell_fits (xs ++ ys) ≡ true
 both_fit xs ys a b = list_all-append cell_fits xs ys ∙ ap (λ c. c && list_all cell_fits ys) a ∙ b
 
-copies_fit : (n : ℕ) (v : Value) → list_all cell_fits (flat v) ≡ true → list_all cell_fits (flat_all (pack (replicate n v))) ≡ true
+copies_fit : (n : ℕ) (v : Value) → list_all cell_fits (flat v) ≡ true → list_all cell_fits (flat_all (pack_values (replicate n v))) ≡ true
 copies_fit zero v e = refl
-copies_fit (suc n) v e = both_fit (flat v) (flat_all (pack (replicate n v))) e (copies_fit n v e)
+copies_fit (suc n) v e = both_fit (flat v) (flat_all (pack_values (replicate n v))) e (copies_fit n v e)
 
 mutual
   zero_known : (t : Type') → list_all cell_fits (flat (zero_of t)) ≡ true
@@ -77,7 +77,7 @@ variables_sized [] = tt
 variables_sized (p ∷ packages) = both_sized (first_variables p) (flat_map first_variables packages) (sized_each p p.variables) (variables_sized packages)
 
 -- what the linker knows of a variable
-abbrev pub placed : Stored → Held
+abbrev pub placed : Stored → LinkedVariable
 placed x = (symbol_code x.symbol, length (flat x.value))
 
 variables_each : (typed : Package) (vs : List Variable) → map (λ (v : PackageVariable). (code_symbol (object_of typed) v.name, length v.zero)) (map translated_variable vs) ≡ map placed (map (stored_first typed) vs)
@@ -92,15 +92,15 @@ variables_linked (p ∷ packages) =
     ∙ ap (λ l. map placed (first_variables p) ++ l) (variables_linked packages)
     ∙ sym (map-append placed (first_variables p) (flat_map first_variables packages))
 
-lie_where : (xs : List Stored) (s : Symbol) → Sized xs → place_in (map placed xs) (symbol_code s) ≡ global_at xs s
+lie_where : (xs : List Stored) (s : Symbol) → Sized xs → first_cell_of (map placed xs) (symbol_code s) ≡ global_at xs s
 lie_where [] s sized = refl
 lie_where (x ∷ xs) s sized =
-    ap (λ n. if same_symbol s x.symbol then 0 else n + place_in (map placed xs) (symbol_code s)) sized.0
+    ap (λ n. if same_symbol s x.symbol then 0 else n + first_cell_of (map placed xs) (symbol_code s)) sized.0
     ∙ ap (λ n. if same_symbol s x.symbol then 0 else cells x.of + n) (lie_where xs s sized.1)
 
 -- the linker knows where they lie
-pub variables_lie : (packages : List Package) (s : Symbol) → place_in (variables (map object_of packages)) (symbol_code s) ≡ global_at (flat_map first_variables packages) s
-variables_lie packages s = ap (λ l. place_in l (symbol_code s)) (variables_linked packages) ∙ lie_where (flat_map first_variables packages) s (variables_sized packages)
+pub variables_lie : (packages : List Package) (s : Symbol) → first_cell_of (variables (map object_of packages)) (symbol_code s) ≡ global_at (flat_map first_variables packages) s
+variables_lie packages s = ap (λ l. first_cell_of l (symbol_code s)) (variables_linked packages) ∙ lie_where (flat_map first_variables packages) s (variables_sized packages)
 
 -- ---- texts
 

@@ -16,7 +16,7 @@ use Rattle.go_code.proofs.Stands.{stands_next}
 use Rattle.go_typed.specs.Trees as trees
 use Rattle.go_typed.specs.Trees.{Expr, Stmt, Stmts, no_stmts, some_stmts}
 use Rattle.go_meaning.specs.Values.{Value, single, parts, flat}
-use Rattle.go_meaning.specs.Meaning.{World, Outcome, Locals, Flow, Normal, Breaks, Continues, Returns, Calls, if_true, if_normal, panicked, eval, exec, exec_all}
+use Rattle.go_meaning.specs.Meaning.{ProgramState, Outcome, Locals, Flow, Normal, Breaks, Continues, Returns, Calls, if_true, if_normal, panicked, eval, exec, exec_all}
 use Rattle.go_gen.specs.Translation.{Places, expr_temps, expr_code, stmt_temps, stmts_temps, stmt_code, stmts_code}
 use Rattle.go_translation_laws.proofs.Frames.{together, types_of}
 use Rattle.go_translation_laws.proofs.Runs.{Onward, onward_then, onward_map, here, On}
@@ -24,24 +24,24 @@ use Rattle.go_translation_laws.proofs.Exprs.{Runs}
 use Rattle.go_translation_laws.proofs.Following.{Past, past_more, past_over, stands_past, Placed, Follows, After, StmtRuns, StmtsRun, follows_as, carried_deeper, expr_follows, jumps}
 
 module _ (image : Image) (final : Final) (depth : ℕ) (code : List (Instr ℕ)) (callers : List Frame) (starts : List Start) (p : Places ℕ) (types : List Type') where
-  abbrev Onto : ℕ → List (Instr ℕ) → List Cell → ℕ → List Cell → World → Type 0
+  abbrev Onto : ℕ → List (Instr ℕ) → List Cell → ℕ → List Cell → ProgramState → Type 0
   Onto t k front m stack w = On image final depth code callers starts p t k front m stack w
 
-  abbrev Goes_on : ℕ → List (Instr ℕ) → Locals → List Cell → ℕ → List Cell → World → Type 0
+  abbrev Goes_on : ℕ → List (Instr ℕ) → Locals → List Cell → ℕ → List Cell → ProgramState → Type 0
   Goes_on t k locals low m stack w = Follows image final depth code callers starts p types t k locals low m stack w
 
-  abbrev Then : ℕ → List (Instr ℕ) → List (Instr ℕ) → List (Instr ℕ) → List Cell → ℕ → Flow → World → Type 0
+  abbrev Then : ℕ → List (Instr ℕ) → List (Instr ℕ) → List (Instr ℕ) → List Cell → ℕ → Flow → ProgramState → Type 0
   Then t rest brk next low m flow w = After image final depth code callers starts p types t rest brk next low m flow w
 
   -- ---- what is done behind a statement that leaves off for the next one
 
-  pub after_rest : (t : ℕ) (rest other brk next : List (Instr ℕ)) (low : List Cell) (m : ℕ) → ((ls : Locals) (w : World) → Goes_on t rest ls low m [] w → Goes_on t other ls low m [] w) → (flow : Flow) (w : World) → Then t rest brk next low m flow w → Then t other brk next low m flow w
+  pub after_rest : (t : ℕ) (rest other brk next : List (Instr ℕ)) (low : List Cell) (m : ℕ) → ((ls : Locals) (w : ProgramState) → Goes_on t rest ls low m [] w → Goes_on t other ls low m [] w) → (flow : Flow) (w : ProgramState) → Then t rest brk next low m flow w → Then t other brk next low m flow w
   after_rest t rest other brk next low m f (Normal ls) w h = λ same. f ls w (h same)
   after_rest t rest other brk next low m f (Breaks ls) w h = h
   after_rest t rest other brk next low m f (Continues ls) w h = h
   after_rest t rest other brk next low m f (Returns vs) w h = h
 
-  pub after_normal : (t : ℕ) (rest other brk next : List (Instr ℕ)) (low : List Cell) (m : ℕ) (meaning : Locals → World → Outcome Flow) → ((ls : Locals) (w : World) → types_of ls ≡ types → Onward final (Then t rest brk next low m) (meaning ls w) → Goes_on t other ls low m [] w) → (flow : Flow) (w : World) → Onward final (Then t rest brk next low m) (if_normal meaning flow w) → Then t other brk next low m flow w
+  pub after_normal : (t : ℕ) (rest other brk next : List (Instr ℕ)) (low : List Cell) (m : ℕ) (meaning : Locals → ProgramState → Outcome Flow) → ((ls : Locals) (w : ProgramState) → types_of ls ≡ types → Onward final (Then t rest brk next low m) (meaning ls w) → Goes_on t other ls low m [] w) → (flow : Flow) (w : ProgramState) → Onward final (Then t rest brk next low m) (if_normal meaning flow w) → Then t other brk next low m flow w
   after_normal t rest other brk next low m meaning f (Normal ls) w h = λ same. f ls w same h
   after_normal t rest other brk next low m meaning f (Breaks ls) w h = h
   after_normal t rest other brk next low m meaning f (Continues ls) w h = h
@@ -49,7 +49,7 @@ module _ (image : Image) (final : Final) (depth : ℕ) (code : List (Instr ℕ))
 
   -- ---- a truth value decides
 
-  pub branches : {A : Type 0} (P : A → World → Type 0) (chosen other : Outcome A) (t n : ℕ) (k target : List (Instr ℕ)) (front : List Cell) (m : ℕ) (stack : List Cell) (w : World) (v : Value) → Past k n target → (Onward final P chosen → Onto t k front m stack w) → (Onward final P other → Onto t target front m stack w) → Onward final P (if_true v chosen other) → Onto t (Go_to (JumpIfNot n) ∷ k) front m (stack ++ flat v) w
+  pub branches : {A : Type 0} (P : A → ProgramState → Type 0) (chosen other : Outcome A) (t n : ℕ) (k target : List (Instr ℕ)) (front : List Cell) (m : ℕ) (stack : List Cell) (w : ProgramState) (v : Value) → Past k n target → (Onward final P chosen → Onto t k front m stack w) → (Onward final P other → Onto t target front m stack w) → Onward final P (if_true v chosen other) → Onto t (Go_to (JumpIfNot n) ∷ k) front m (stack ++ flat v) w
   branches {A} P chosen other t n k target front m stack w (single (Truth true)) past first second h = λ known few place high long s.
       jump_if_not_stays image (here image final depth code callers starts p place (front ++ high) (stack ++ Truth true ∷ []) w) _ callers n stack final (record { frames = refl; rest = k; stands = s }) refl
       (first h known few (place + 1) high long (stands_next code place _ k s))
@@ -125,7 +125,7 @@ module _ (image : Image) (final : Final) (depth : ℕ) (code : List (Instr ℕ))
         (onward_then final _ (eval calls e locals w) _ h)))
 
     -- https://go.dev/ref/spec#Handling_panics
-    panics : (v : Value) (t : ℕ) (rest brk next k : List (Instr ℕ)) (locals : Locals) (low : List Cell) (m : ℕ) (w : World) → Onward final (Then t rest brk next low m) (panicked v w) → Goes_on t (To_output Panic ∷ k) locals low m (flat v) w
+    panics : (v : Value) (t : ℕ) (rest brk next k : List (Instr ℕ)) (locals : Locals) (low : List Cell) (m : ℕ) (w : ProgramState) → Onward final (Then t rest brk next low m) (panicked v w) → Goes_on t (To_output Panic ∷ k) locals low m (flat v) w
     panics (single (Text text)) t rest brk next k locals low m w h = λ rows fits known few place high long s.
         subst (Leads image (here image final depth code callers starts p place ((together rows ++ low) ++ high) (Text text ∷ []) w)) (sym h)
         (panic_leads image (here image final depth code callers starts p place ((together rows ++ low) ++ high) (Text text ∷ []) w) _ callers [] text (record { frames = refl; rest = k; stands = s }) refl)

@@ -22,8 +22,8 @@ use Rattle.go_typed.specs.Trees.{Symbol, Left, blank, of_local, of_global, of_sl
 use Rattle.go_meaning.specs.Values.{Value, single, flat, is_of, Step, read, updated}
 use Rattle.go_meaning.specs.Choices.{element_type}
 use Rattle.go_symbol.specs.Symbols.{same_symbol}
-use Rattle.go_meaning.specs.Meaning.{Stored, World, Gives, Local, Locals, Target, nowhere, in_local, in_global, in_slice, and_then, if_known, given, local_value, global_value, with_global, changed, put, taken, give}
-use Rattle.go_gen.specs.Translation.{Places, total, load, expr_temps, address_code, row_code, take_code, give_code}
+use Rattle.go_meaning.specs.Meaning.{Stored, ProgramState, Gives, Local, Locals, Target, nowhere, in_local, in_global, in_slice, and_then, if_known, typed_or_panic, local_value, global_value, with_global, or_panic, put, target_value, give}
+use Rattle.go_gen.specs.Translation.{Places, total, load, expr_temps, address_code, array_access_code, take_code, give_code}
 use Rattle.go_translation_laws.proofs.Frames.{RowOf, Fits, together, types_of, lies}
 use Rattle.go_meaning_laws.proofs.Values.{flat_long}
 use Rattle.go_translation_laws.proofs.Runs.{Onward, onward_then, onward_map, held, Known, On, local_known, global_known, global_lies}
@@ -98,10 +98,10 @@ KeptLeft (of_slice t e q) (in_slice u v []) row = ⊥
 KeptLeft (of_slice t e q) (in_slice u v (s ∷ ss)) row = (element_type (underlying t) ≡ Some u) × KeptSlice (λ others. Kept t q (s ∷ ss) others) (expr_temps e) v row
 
 module _ (image : Image) (final : Final) (depth : ℕ) (code : List (Instr ℕ)) (callers : List Frame) (starts : List Start) (p : Places ℕ) (types : List Type') where
-  abbrev Onto : ℕ → List (Instr ℕ) → List Cell → ℕ → List Cell → World → Type 0
+  abbrev Onto : ℕ → List (Instr ℕ) → List Cell → ℕ → List Cell → ProgramState → Type 0
   Onto t k front m stack w = On image final depth code callers starts p t k front m stack w
 
-  abbrev Goes_on : ℕ → List (Instr ℕ) → Locals → List Cell → ℕ → List Cell → World → Type 0
+  abbrev Goes_on : ℕ → List (Instr ℕ) → Locals → List Cell → ℕ → List Cell → ProgramState → Type 0
   Goes_on t k locals low m stack w = Follows image final depth code callers starts p types t k locals low m stack w
 
   module _ (placed : Placed image final depth code callers starts p types) where
@@ -116,9 +116,9 @@ module _ (image : Image) (final : Final) (depth : ℕ) (code : List (Instr ℕ))
         let shape : (at.before ++ (flat v ++ at.after)) ++ low ≡ at.before ++ (flat v ++ (at.after ++ low)) = simp append_assoc in
         record { before = at.before; after = at.after ++ low; is = ap (λ l. l ++ low) (at.is ∙ ap (λ r. at.before ++ (r ++ at.after)) row) ∙ shape; place = place }
 
-    take_local : (u : Type') (n : ℕ) (q : trees.Steps) (ss : List Step) (of : Type') (row : List Cell) (at t : ℕ) (k : List (Instr ℕ)) (locals : Locals) (low : List Cell) (m : ℕ) (stack : List Cell) (w : World) → types_of locals ≡ types → Has low at row → Kept u q ss row → cells u ≤ most_room → Onward final (λ x w1. is_of of x ≡ true → Goes_on t k locals low m (stack ++ flat x) w1) (and_then (given u (local_value locals n) w) (λ v. given of (read ss v))) → Goes_on t (address_code u (total types + at) q ++ (On_cells (LoadAt (p.locals n) (cells of)) ∷ k)) locals low m stack w
+    take_local : (u : Type') (n : ℕ) (q : trees.Steps) (ss : List Step) (of : Type') (row : List Cell) (at t : ℕ) (k : List (Instr ℕ)) (locals : Locals) (low : List Cell) (m : ℕ) (stack : List Cell) (w : ProgramState) → types_of locals ≡ types → Has low at row → Kept u q ss row → cells u ≤ most_room → Onward final (λ x w1. is_of of x ≡ true → Goes_on t k locals low m (stack ++ flat x) w1) (and_then (typed_or_panic u (local_value locals n) w) (λ v. typed_or_panic of (read ss v))) → Goes_on t (address_code u (total types + at) q ++ (On_cells (LoadAt (p.locals n) (cells of)) ∷ k)) locals low m stack w
     take_local u n q ss of row at t k locals low m stack w same has kept small h rows fits =
-        let known = local_known image final depth code callers starts p _ locals u n w (slice_get locals n) refl (onward_then final _ (given u (local_value locals n) w) (λ v. given of (read ss v)) h) in
+        let known = local_known image final depth code callers starts p _ locals u n w (slice_get locals n) refl (onward_then final _ (typed_or_panic u (local_value locals n) w) (λ v. typed_or_panic of (read ss v)) h) in
         let size : length (together rows) ≡ total types = together_long rows locals fits ∙ ap total same in
         address_runs image final depth code callers starts p q ss u known.v row (total types + at) t (On_cells (LoadAt (p.locals n) (cells of)) ∷ k) (together rows ++ low) m stack w (has_behind (together rows) low (total types) at row size has) kept known.typed small
         (reach_given image final depth code callers starts p _ _ of ss known.v w (read ss known.v) known.holds (λ x o led typed on.
@@ -126,9 +126,9 @@ module _ (image : Image) (final : Final) (depth : ℕ) (code : List (Instr ℕ))
         (has_inside (together rows ++ low) (flat known.v) (p.locals n) o (flat x) (local_has rows locals low n known.l known.v fits same known.found known.value) (led_has ss known.v x o led))
         (flat_long of x typed) (on typed rows fits)))
 
-    take_global : (u : Type') (s : Symbol) (q : trees.Steps) (ss : List Step) (of : Type') (row : List Cell) (at t : ℕ) (k : List (Instr ℕ)) (locals : Locals) (low : List Cell) (m : ℕ) (stack : List Cell) (w : World) → types_of locals ≡ types → Has low at row → Kept u q ss row → cells u ≤ most_room → Onward final (λ x w1. is_of of x ≡ true → Goes_on t k locals low m (stack ++ flat x) w1) (and_then (given u (global_value w.variables s) w) (λ v. given of (read ss v))) → Goes_on t (address_code u (total types + at) q ++ (On_globals (LoadAt (p.globals s) (cells of)) ∷ k)) locals low m stack w
+    take_global : (u : Type') (s : Symbol) (q : trees.Steps) (ss : List Step) (of : Type') (row : List Cell) (at t : ℕ) (k : List (Instr ℕ)) (locals : Locals) (low : List Cell) (m : ℕ) (stack : List Cell) (w : ProgramState) → types_of locals ≡ types → Has low at row → Kept u q ss row → cells u ≤ most_room → Onward final (λ x w1. is_of of x ≡ true → Goes_on t k locals low m (stack ++ flat x) w1) (and_then (typed_or_panic u (global_value w.variables s) w) (λ v. typed_or_panic of (read ss v))) → Goes_on t (address_code u (total types + at) q ++ (On_globals (LoadAt (p.globals s) (cells of)) ∷ k)) locals low m stack w
     take_global u s q ss of row at t k locals low m stack w same has kept small h rows fits =
-        let known = global_known image final depth code callers starts p _ u s w (option_map (λ x. x.value) (find (λ x. same_symbol s x.symbol) w.variables)) refl (onward_then final _ (given u (global_value w.variables s) w) (λ v. given of (read ss v)) h) in
+        let known = global_known image final depth code callers starts p _ u s w (option_map (λ x. x.value) (find (λ x. same_symbol s x.symbol) w.variables)) refl (onward_then final _ (typed_or_panic u (global_value w.variables s) w) (λ v. typed_or_panic of (read ss v)) h) in
         let size : length (together rows) ≡ total types = together_long rows locals fits ∙ ap total same in
         on_known image final depth code callers starts p t (address_code u (total types + at) q ++ (On_globals (LoadAt (p.globals s) (cells of)) ∷ k)) (together rows ++ low) m stack w (λ sound.
         let lies = global_lies image final depth code callers starts p w.variables s known.v sound.0 known.found in
@@ -139,7 +139,7 @@ module _ (image : Image) (final : Final) (depth : ℕ) (code : List (Instr ℕ))
         (has_inside (held w.variables) (flat known.v) (p.globals s) o (flat x) whole (led_has ss known.v x o led))
         (flat_long of x typed) (on typed rows fits))))
 
-    pub take_runs : (l : Left) (target : Target) (of : Type') (row : List Cell) (at t : ℕ) (k : List (Instr ℕ)) (locals : Locals) (low : List Cell) (m : ℕ) (stack : List Cell) (w : World) → types_of locals ≡ types → Has low at row → KeptLeft l target row → Onward final (λ x w1. is_of of x ≡ true → Goes_on t k locals low m (stack ++ flat x) w1) (taken of target locals w) → Goes_on t (take_code p (total types + at) l (cells of) ++ k) locals low m stack w
+    pub take_runs : (l : Left) (target : Target) (of : Type') (row : List Cell) (at t : ℕ) (k : List (Instr ℕ)) (locals : Locals) (low : List Cell) (m : ℕ) (stack : List Cell) (w : ProgramState) → types_of locals ≡ types → Has low at row → KeptLeft l target row → Onward final (λ x w1. is_of of x ≡ true → Goes_on t k locals low m (stack ++ flat x) w1) (target_value of target locals w) → Goes_on t (take_code p (total types + at) l (cells of) ++ k) locals low m stack w
     take_runs blank nowhere of row at t k locals low m stack w same has kept h = absurd h
     take_runs blank (in_local u j ss) of row at t k locals low m stack w same has kept h = absurd kept
     take_runs blank (in_global u r ss) of row at t k locals low m stack w same has kept h = absurd kept
@@ -150,39 +150,39 @@ module _ (image : Image) (final : Final) (depth : ℕ) (code : List (Instr ℕ))
     take_runs (of_local u n q) (in_local v j ss) of row at t k locals low m stack w same has kept h =
         follows_as image final depth code callers starts p types t _ _ locals low m stack w (sym (append_assoc (address_code u (total types + at) q) (On_cells (LoadAt (p.locals n) (cells of)) ∷ []) k))
         (take_local u n q ss of row at t k locals low m stack w same has kept.3 kept.2
-        (subst (λ i. Onward final (λ x w1. is_of of x ≡ true → Goes_on t k locals low m (stack ++ flat x) w1) (taken of (in_local u i ss) locals w)) kept.1
-        (subst (λ y. Onward final (λ x w1. is_of of x ≡ true → Goes_on t k locals low m (stack ++ flat x) w1) (taken of (in_local y j ss) locals w)) kept.0 h)))
+        (subst (λ i. Onward final (λ x w1. is_of of x ≡ true → Goes_on t k locals low m (stack ++ flat x) w1) (target_value of (in_local u i ss) locals w)) kept.1
+        (subst (λ y. Onward final (λ x w1. is_of of x ≡ true → Goes_on t k locals low m (stack ++ flat x) w1) (target_value of (in_local y j ss) locals w)) kept.0 h)))
     take_runs (of_global u s q) nowhere of row at t k locals low m stack w same has kept h = absurd kept
     take_runs (of_global u s q) (in_slice v sv ss) of row at t k locals low m stack w same has kept h = absurd kept
     take_runs (of_global u s q) (in_local v j ss) of row at t k locals low m stack w same has kept h = absurd kept
     take_runs (of_global u s q) (in_global v r ss) of row at t k locals low m stack w same has kept h =
         follows_as image final depth code callers starts p types t _ _ locals low m stack w (sym (append_assoc (address_code u (total types + at) q) (On_globals (LoadAt (p.globals s) (cells of)) ∷ []) k))
         (take_global u s q ss of row at t k locals low m stack w same has kept.3 kept.2
-        (subst (λ i. Onward final (λ x w1. is_of of x ≡ true → Goes_on t k locals low m (stack ++ flat x) w1) (taken of (in_global u i ss) locals w)) kept.1
-        (subst (λ y. Onward final (λ x w1. is_of of x ≡ true → Goes_on t k locals low m (stack ++ flat x) w1) (taken of (in_global y r ss) locals w)) kept.0 h)))
+        (subst (λ i. Onward final (λ x w1. is_of of x ≡ true → Goes_on t k locals low m (stack ++ flat x) w1) (target_value of (in_global u i ss) locals w)) kept.1
+        (subst (λ y. Onward final (λ x w1. is_of of x ≡ true → Goes_on t k locals low m (stack ++ flat x) w1) (target_value of (in_global y r ss) locals w)) kept.0 h)))
     take_runs (of_slice u e q) nowhere of row at t k locals low m stack w same has kept h = absurd kept
     take_runs (of_slice u e q) (in_local v j ss) of row at t k locals low m stack w same has kept h = absurd kept
     take_runs (of_slice u e q) (in_global v r ss) of row at t k locals low m stack w same has kept h = absurd kept
     take_runs (of_slice u e q) (in_slice v sv []) of row at t k locals low m stack w same has kept h = absurd kept
     take_runs (of_slice u e q) (in_slice v sv (s ∷ ss)) of row at t k locals low m stack w same has kept h =
         let first : ℕ = total types + at in
-        follows_as image final depth code callers starts p types t _ _ locals low m stack w (sym (append_assoc (row_code u (first + expr_temps e) (first + expr_temps e + 1) q) (On_rows (GetAt (cells of)) ∷ []) k))
+        follows_as image final depth code callers starts p types t _ _ locals low m stack w (sym (append_assoc (array_access_code u (first + expr_temps e) (first + expr_temps e + 1) q) (On_rows (GetAt (cells of)) ∷ []) k))
         (λ rows fits.
         let size : length (together rows) ≡ total types = together_long rows locals fits ∙ ap total same in
         let lies = slice_lies (λ others. Kept u q (s ∷ ss) others) (expr_temps e) sv row (together rows ++ low) first kept.1 (has_behind (together rows) low (total types) at row size has) in
         take_slice image final depth code callers starts p u v kept.0 q s ss kept.1.cell of kept.1.others (first + expr_temps e) (first + expr_temps e + 1) t k (together rows ++ low) m stack w lies.0 lies.1 kept.1.holds
-        (onward_map final _ _ (taken of (in_slice v (single kept.1.cell) (s ∷ ss)) locals w) (λ x w1 more typed. more typed rows fits)
-        (subst (λ y. Onward final (λ x w1. is_of of x ≡ true → Goes_on t k locals low m (stack ++ flat x) w1) (taken of (in_slice v y (s ∷ ss)) locals w)) kept.1.value h)))
+        (onward_map final _ _ (target_value of (in_slice v (single kept.1.cell) (s ∷ ss)) locals w) (λ x w1 more typed. more typed rows fits)
+        (subst (λ y. Onward final (λ x w1. is_of of x ≡ true → Goes_on t k locals low m (stack ++ flat x) w1) (target_value of (in_slice v y (s ∷ ss)) locals w)) kept.1.value h)))
 
     -- ---- what is given
 
-    give_local : (u : Type') (n : ℕ) (q : trees.Steps) (ss : List Step) (y : Value) (count : ℕ) (row : List Cell) (at t : ℕ) (k : List (Instr ℕ)) (locals : Locals) (low : List Cell) (m : ℕ) (stack : List Cell) (w : World) → types_of locals ≡ types → Has low at row → Kept u q ss row → cells u ≤ most_room → length (flat y) ≡ count → Onward final (λ ls w1. types_of ls ≡ types → Goes_on t k ls low m stack w1) (give (in_local u n ss) y locals w) → Goes_on t (address_code u (total types + at) q ++ (On_cells (StoreAt (p.locals n) count) ∷ k)) locals low m (stack ++ flat y) w
+    give_local : (u : Type') (n : ℕ) (q : trees.Steps) (ss : List Step) (y : Value) (count : ℕ) (row : List Cell) (at t : ℕ) (k : List (Instr ℕ)) (locals : Locals) (low : List Cell) (m : ℕ) (stack : List Cell) (w : ProgramState) → types_of locals ≡ types → Has low at row → Kept u q ss row → cells u ≤ most_room → length (flat y) ≡ count → Onward final (λ ls w1. types_of ls ≡ types → Goes_on t k ls low m stack w1) (give (in_local u n ss) y locals w) → Goes_on t (address_code u (total types + at) q ++ (On_cells (StoreAt (p.locals n) count) ∷ k)) locals low m (stack ++ flat y) w
     give_local u n q ss y count row at t k locals low m stack w same has kept small long h rows fits =
-        let P : Locals → World → Type 0 = λ ls w1. types_of ls ≡ types → Goes_on t k ls low m stack w1 in
-        let known = local_known image final depth code callers starts p (λ old w1. Onward final P (and_then (changed (updated ss old y) w1) (λ new. put (in_local u n ss) new locals))) locals u n w (slice_get locals n) refl (onward_then final P (given u (local_value locals n) w) _ h) in
+        let P : Locals → ProgramState → Type 0 = λ ls w1. types_of ls ≡ types → Goes_on t k ls low m stack w1 in
+        let known = local_known image final depth code callers starts p (λ old w1. Onward final P (and_then (or_panic (updated ss old y) w1) (λ new. put (in_local u n ss) new locals))) locals u n w (slice_get locals n) refl (onward_then final P (typed_or_panic u (local_value locals n) w) _ h) in
         let size : length (together rows) ≡ total types = together_long rows locals fits ∙ ap total same in
         address_runs image final depth code callers starts p q ss u known.v row (total types + at) t (On_cells (StoreAt (p.locals n) count) ∷ k) (together rows ++ low) m (stack ++ flat y) w (has_behind (together rows) low (total types) at row size has) kept known.typed small
-        (reach_changed image final depth code callers starts p (λ new w1. Onward final P (put (in_local u n ss) new locals w1)) _ ss known.v y w (read ss known.v) refl (onward_then final P (changed (updated ss known.v y) w) _ known.holds) (λ x o led goes.
+        (reach_changed image final depth code callers starts p (λ new w1. Onward final P (put (in_local u n ss) new locals w1)) _ ss known.v y w (read ss known.v) refl (onward_then final P (or_panic (updated ss known.v y) w) _ known.holds) (λ x o led goes.
         stored known.l known.v x o led known.found known.value (local_put final P locals n known.l (led.renewed y).new w known.found goes)))
       where
         stored : (l : Local) (v x : Value) (o : ℕ) (led : Led ss v x o) → slice_get locals n ≡ Some l → l.value ≡ Some v → (is_of l.of (led.renewed y).new ≡ true) × (types_of (slice_set locals n (record { of = l.of; value = Some (led.renewed y).new })) ≡ types → Goes_on t k (slice_set locals n (record { of = l.of; value = Some (led.renewed y).new })) low m stack w) → Onto t (On_cells (StoreAt (p.locals n) count) ∷ k) (together rows ++ low) m ((stack ++ flat y) ++ Int (pos o) ∷ []) w
@@ -206,14 +206,14 @@ module _ (image : Image) (final : Final) (depth : ℕ) (code : List (Instr ℕ))
             (on_front image final depth code callers starts p t k (together other.others ++ low) _ m stack w becomes
             (g.1 (types_stay locals n l l1 found refl ∙ same) other.others other.fits)))
 
-    give_global : (u : Type') (s : Symbol) (q : trees.Steps) (ss : List Step) (y : Value) (count : ℕ) (row : List Cell) (at t : ℕ) (k : List (Instr ℕ)) (locals : Locals) (low : List Cell) (m : ℕ) (stack : List Cell) (w : World) → types_of locals ≡ types → Has low at row → Kept u q ss row → cells u ≤ most_room → length (flat y) ≡ count → Onward final (λ ls w1. types_of ls ≡ types → Goes_on t k ls low m stack w1) (give (in_global u s ss) y locals w) → Goes_on t (address_code u (total types + at) q ++ (On_globals (StoreAt (p.globals s) count) ∷ k)) locals low m (stack ++ flat y) w
+    give_global : (u : Type') (s : Symbol) (q : trees.Steps) (ss : List Step) (y : Value) (count : ℕ) (row : List Cell) (at t : ℕ) (k : List (Instr ℕ)) (locals : Locals) (low : List Cell) (m : ℕ) (stack : List Cell) (w : ProgramState) → types_of locals ≡ types → Has low at row → Kept u q ss row → cells u ≤ most_room → length (flat y) ≡ count → Onward final (λ ls w1. types_of ls ≡ types → Goes_on t k ls low m stack w1) (give (in_global u s ss) y locals w) → Goes_on t (address_code u (total types + at) q ++ (On_globals (StoreAt (p.globals s) count) ∷ k)) locals low m (stack ++ flat y) w
     give_global u s q ss y count row at t k locals low m stack w same has kept small long h rows fits =
-        let P : Locals → World → Type 0 = λ ls w1. types_of ls ≡ types → Goes_on t k ls low m stack w1 in
-        let known = global_known image final depth code callers starts p (λ old w1. Onward final P (and_then (changed (updated ss old y) w1) (λ new. put (in_global u s ss) new locals))) u s w (option_map (λ x. x.value) (find (λ x. same_symbol s x.symbol) w.variables)) refl (onward_then final P (given u (global_value w.variables s) w) _ h) in
+        let P : Locals → ProgramState → Type 0 = λ ls w1. types_of ls ≡ types → Goes_on t k ls low m stack w1 in
+        let known = global_known image final depth code callers starts p (λ old w1. Onward final P (and_then (or_panic (updated ss old y) w1) (λ new. put (in_global u s ss) new locals))) u s w (option_map (λ x. x.value) (find (λ x. same_symbol s x.symbol) w.variables)) refl (onward_then final P (typed_or_panic u (global_value w.variables s) w) _ h) in
         let size : length (together rows) ≡ total types = together_long rows locals fits ∙ ap total same in
         on_known image final depth code callers starts p t (address_code u (total types + at) q ++ (On_globals (StoreAt (p.globals s) count) ∷ k)) (together rows ++ low) m (stack ++ flat y) w (λ sound.
         address_runs image final depth code callers starts p q ss u known.v row (total types + at) t (On_globals (StoreAt (p.globals s) count) ∷ k) (together rows ++ low) m (stack ++ flat y) w (has_behind (together rows) low (total types) at row size has) kept known.typed small
-        (reach_changed image final depth code callers starts p (λ new w1. Onward final P (put (in_global u s ss) new locals w1)) _ ss known.v y w (read ss known.v) refl (onward_then final P (changed (updated ss known.v y) w) _ known.holds) (λ x o led goes.
+        (reach_changed image final depth code callers starts p (λ new w1. Onward final P (put (in_global u s ss) new locals w1)) _ ss known.v y w (read ss known.v) refl (onward_then final P (or_panic (updated ss known.v y) w) _ known.holds) (λ x o led goes.
         stored known.v x o led sound known.found (with_global w.variables s (led.renewed y).new) refl goes)))
       where
         stored : (v x : Value) (o : ℕ) (led : Led ss v x o) → Known image final depth code callers starts p w → option_map (λ z. z.value) (find (λ z. same_symbol s z.symbol) w.variables) ≡ Some v → (vs : Option (List Stored)) → with_global w.variables s (led.renewed y).new ≡ vs → Onward final (λ ls w1. types_of ls ≡ types → Goes_on t k ls low m stack w1) (and_then (if_known vs w) (λ variables w1. Gives locals (record w1 { variables = variables }))) → Onto t (On_globals (StoreAt (p.globals s) count) ∷ k) (together rows ++ low) m ((stack ++ flat y) ++ Int (pos o) ∷ []) w
@@ -230,14 +230,14 @@ module _ (image : Image) (final : Final) (depth : ℕ) (code : List (Instr ℕ))
             place one long (gp.sized, λ r. sound.1 r ∙ sym (gp.same r)) (goes same rows fits)
 
     -- a value that lies in its temporary comes on the stack
-    loaded : (y : Value) (count there t : ℕ) (address : List (Instr ℕ)) (i : Instr ℕ) (k : List (Instr ℕ)) (locals : Locals) (low : List Cell) (m : ℕ) (stack : List Cell) (w : World) → types_of locals ≡ types → Has low there (flat y) → length (flat y) ≡ count → Goes_on t (address ++ (i ∷ k)) locals low m (stack ++ flat y) w → Goes_on t ((load (total types + there) count ∷ address ++ i ∷ []) ++ k) locals low m stack w
+    loaded : (y : Value) (count there t : ℕ) (address : List (Instr ℕ)) (i : Instr ℕ) (k : List (Instr ℕ)) (locals : Locals) (low : List Cell) (m : ℕ) (stack : List Cell) (w : ProgramState) → types_of locals ≡ types → Has low there (flat y) → length (flat y) ≡ count → Goes_on t (address ++ (i ∷ k)) locals low m (stack ++ flat y) w → Goes_on t ((load (total types + there) count ∷ address ++ i ∷ []) ++ k) locals low m stack w
     loaded y count there t address i k locals low m stack w same value long on =
         follows_as image final depth code callers starts p types t (load (total types + there) count ∷ (address ++ (i ∷ k))) _ locals low m stack w (ap (λ l. load (total types + there) count ∷ l) (sym (append_assoc address (i ∷ []) k)))
         (λ rows fits.
         let size : length (together rows) ≡ total types = together_long rows locals fits ∙ ap total same in
         has_loads image final depth code callers starts p t (total types + there) count (flat y) (address ++ (i ∷ k)) (together rows ++ low) m stack w (has_behind (together rows) low (total types) there (flat y) size value) long (on rows fits))
 
-    pub give_runs : (l : Left) (target : Target) (y : Value) (count : ℕ) (row : List Cell) (at there t : ℕ) (k : List (Instr ℕ)) (locals : Locals) (low : List Cell) (m : ℕ) (stack : List Cell) (w : World) → types_of locals ≡ types → Has low at row → KeptLeft l target row → Has low there (kept_value l y) → length (flat y) ≡ count → Onward final (λ ls w1. types_of ls ≡ types → Goes_on t k ls low m stack w1) (give target y locals w) → Goes_on t (give_code p (total types + at) l (total types + there) count ++ k) locals low m stack w
+    pub give_runs : (l : Left) (target : Target) (y : Value) (count : ℕ) (row : List Cell) (at there t : ℕ) (k : List (Instr ℕ)) (locals : Locals) (low : List Cell) (m : ℕ) (stack : List Cell) (w : ProgramState) → types_of locals ≡ types → Has low at row → KeptLeft l target row → Has low there (kept_value l y) → length (flat y) ≡ count → Onward final (λ ls w1. types_of ls ≡ types → Goes_on t k ls low m stack w1) (give target y locals w) → Goes_on t (give_code p (total types + at) l (total types + there) count ++ k) locals low m stack w
     give_runs blank nowhere y count row at there t k locals low m stack w same has kept value long h = h same
     give_runs blank (in_local u j ss) y count row at there t k locals low m stack w same has kept value long h = absurd kept
     give_runs blank (in_global u r ss) y count row at there t k locals low m stack w same has kept value long h = absurd kept
@@ -264,7 +264,7 @@ module _ (image : Image) (final : Final) (depth : ℕ) (code : List (Instr ℕ))
     give_runs (of_slice u e q) (in_slice v sv []) y count row at there t k locals low m stack w same has kept value long h = absurd kept
     give_runs (of_slice u e q) (in_slice v sv (s ∷ ss)) y count row at there t k locals low m stack w same has kept value long h =
         let first : ℕ = total types + at in
-        loaded y count there t (row_code u (first + expr_temps e) (first + expr_temps e + 1) q) (On_rows (SetAt count)) k locals low m stack w same value long
+        loaded y count there t (array_access_code u (first + expr_temps e) (first + expr_temps e + 1) q) (On_rows (SetAt count)) k locals low m stack w same value long
         (λ rows fits.
         let size : length (together rows) ≡ total types = together_long rows locals fits ∙ ap total same in
         let lies = slice_lies (λ others. Kept u q (s ∷ ss) others) (expr_temps e) sv row (together rows ++ low) first kept.1 (has_behind (together rows) low (total types) at row size has) in

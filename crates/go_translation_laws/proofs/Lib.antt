@@ -1,48 +1,48 @@
-pub mod Accessed
-pub mod Addresses
-pub mod Assignments
-pub mod Calls
-pub mod Computed
-pub mod ComputedPackages
-pub mod ComputedSetups
-pub mod ComputedSlices
-pub mod Counters
-pub mod Cuts
-pub mod Defines
+mod Accessed
+mod Addresses
+mod Assignments
+mod Calls
+mod Computed
+mod ComputedPackages
+mod ComputedSetups
+mod ComputedSlices
+mod Counters
+mod Cuts
+mod Defines
 pub mod Editions
-pub mod Elements
-pub mod Expressions
-pub mod Exprs
-pub mod FirstVariables
-pub mod Flows
-pub mod Following
-pub mod Frames
-pub mod Images
-pub mod Lefts
+mod Elements
+mod Expressions
+mod Exprs
+mod FirstVariables
+mod Flows
+mod Following
+mod Frames
+mod Images
+mod Lefts
 pub mod LinkedNames
-pub mod Linking
-pub mod Literals
-pub mod Loops
-pub mod Named
-pub mod NamedBodies
-pub mod Operands
-pub mod Programs
-pub mod Ranges
-pub mod Referred
-pub mod ReferredBodies
+mod Linking
+mod Literals
+mod Loops
+mod Named
+mod NamedBodies
+mod Operands
+mod Programs
+mod Ranges
+mod Referred
+mod ReferredBodies
 pub mod Refusals
-pub mod RowLemmas
-pub mod RowReads
-pub mod RowSteps
-pub mod Rows
-pub mod Runs
-pub mod Setups
-pub mod Shapes
-pub mod Sources
-pub mod Statements
-pub mod Steps
-pub mod Switches
-pub mod Tests
-pub mod Variables
+mod RowLemmas
+mod RowReads
+mod RowSteps
+mod Rows
+mod Runs
+mod Setups
+mod Shapes
+mod Sources
+mod Statements
+mod Steps
+mod Switches
+mod Tests
+mod Variables
 pub mod WellTyped
-pub mod Zeros
+mod Zeros

@@ -10,13 +10,13 @@ use Rattle.go_symbol.specs.Symbols as symbols
 use Rattle.go_link.specs.declared.link.LinkError.{LinkError}
 use Rattle.go_link.specs.declared.link.LinkError.TheVariants.{NoMain, NameMissing, EditionsDiffer}
 use Rattle.go_symbol.specs.Symbols.{same_symbol}
-use Rattle.go_link.specs.Links.{Held, names, variables, is_missing, code_of, editions_differ, name_missing, has_main, link_refusal}
+use Rattle.go_link.specs.Links.{LinkedVariable, function_symbols, variables, code_of, editions_differ, name_missing, has_main, link_refusal}
 use Rattle.go_typed.specs.Trees.{Function, Initialization, Package}
 use Rattle.go_init.specs.Variables.{variable_order}
 use Rattle.go_meaning.specs.Meaning.{Stored}
-use Rattle.go_meaning.specs.Programs.{Declared, symbol_of, package_functions, first_variables, is_init, last_package, Step, sets, calls, package_steps, main_steps, IsProgram}
+use Rattle.go_meaning.specs.Programs.{DeclaredFunction, package_symbol, package_functions, first_variables, is_init, last_package, StartStep, sets, calls, package_steps, main_steps, IsProgram}
 use Rattle.go_gen.specs.Translation.{symbol_code, translated_function, translated_setup, object_of}
-use Rattle.go_meaning_laws.specs.WellTyped.{Setting, setting, outside, signature_at, variable_at, IsFunction, IsStart, IsWellTyped}
+use Rattle.go_meaning_laws.specs.WellTyped.{Setting, setting, package_setting, signature_at, variable_at, IsWellTypedFunction, IsWellTypedStart, IsWellTyped}
 use Rattle.go_translation_laws.specs.Programs.{HaveOneEdition}
 use Rattle.go_translation_laws.proofs.Editions.{alike, one_edition}
 use Rattle.go_translation_laws.proofs.FirstVariables.{placed, variables_linked}
@@ -29,7 +29,7 @@ use Rattle.go_translation_laws.proofs.Refusals.{has_main_if}
 
 -- what the linker knows of packages
 abbrev pub present : List Package → Present
-present packages = (names (objects_of packages), variables (objects_of packages))
+present packages = (function_symbols (objects_of packages), variables (objects_of packages))
 
 found_or : {A : Type 0} (b : Bool) (x : A) (o : Option A) → (b || is_some o) ≡ is_some (cond b (Some x) o)
 found_or true x o = refl
@@ -53,13 +53,13 @@ made_if h g (Some a) x e = refl
 called : (packages : List Package) (g : Setting) → g.functions ≡ signature_at packages → g.variables ≡ variable_at packages → Callable (present packages) symbol_code symbol_code g
 called packages g functions held = (
   (λ s x e.
-      let is : Declared → Bool = λ d. same_symbol s d.symbol in
+      let is : DeclaredFunction → Bool = λ d. same_symbol s d.symbol in
       ap (list_any (same_symbol (symbol_code s))) (names_linked packages)
       ∙ any_found is (same_symbol (symbol_code s)) symbol_in (λ d. refl) (all_functions packages)
-      ∙ made_if (λ (d : Declared). d.function) (λ (f : Function). record { parameters = f.parameters; results = f.results }) (find is (all_functions packages)) x (sym (ap (λ h. h s) functions) ∙ e)),
+      ∙ made_if (λ (d : DeclaredFunction). d.function) (λ (f : Function). record { parameters = f.parameters; results = f.results }) (find is (all_functions packages)) x (sym (ap (λ h. h s) functions) ∙ e)),
   (λ s t e.
       let is : Stored → Bool = λ x. same_symbol s x.symbol in
-      let of : Held → Bool = λ v. same_symbol (symbol_code s) v.0 in
+      let of : LinkedVariable → Bool = λ v. same_symbol (symbol_code s) v.0 in
       ap (list_any of) (variables_linked packages)
       ∙ any_found is of placed (λ x. refl) (flat_map first_variables packages)
       ∙ some_if (λ (x : Stored). x.of) (find is (flat_map first_variables packages)) t (sym (ap (λ h. h s) held) ∙ e)),
@@ -76,11 +76,11 @@ all_behind P [] ys h = h
 all_behind P (x ∷ xs) ys h = all_behind P xs ys (All-tail P x (xs ++ ys) h)
 
 module _ (packages : List Package) where
-  abbrev IsSound : Declared → Type 0
-  IsSound d = IsFunction packages d.function
+  abbrev IsSound : DeclaredFunction → Type 0
+  IsSound d = IsWellTypedFunction packages d.function
 
-  abbrev IsSet : Step → Type 0
-  IsSet = IsStart packages
+  abbrev IsSet : StartStep → Type 0
+  IsSet = IsWellTypedStart packages
 
   functions_named : (typed : Package) (fs : List Function) → All IsSound (map (declared_in typed) fs) → Named (present packages) (flat_map (λ (f : PackageFunction). f.function.code) (map translated_function fs))
   functions_named typed [] h = refl
@@ -95,14 +95,14 @@ module _ (packages : List Package) where
   setups_named path (i ∷ is) h =
       let rest = map (sets path) is in
       both_named (present packages) (translated_setup symbol_code symbol_code path i).code _
-      (setup_named (present packages) packages symbol_code symbol_code path i (called packages (outside packages) refl refl) (All-head IsSet (sets path i) rest h))
+      (setup_named (present packages) packages symbol_code symbol_code path i (called packages (package_setting packages) refl refl) (All-head IsSet (sets path i) rest h))
       (setups_named path is (All-tail IsSet (sets path i) rest h))
 
   codes_named : (ps : List Package) → All IsSound (all_functions ps) → All IsSet (flat_map package_steps ps) → Named (present packages) (flat_map code_of (objects_of ps))
   codes_named [] h k = refl
   codes_named (p ∷ ps) h k =
-      let set : List Step = map (sets p.path) (variable_order p).0 in
-      let inits : List Step = map (λ (f : Function). calls (symbol_of p f.name)) (filter is_init p.functions) in
+      let set : List StartStep = map (sets p.path) (variable_order p).0 in
+      let inits : List StartStep = map (λ (f : Function). calls (package_symbol p f.name)) (filter is_init p.functions) in
       both_named (present packages) (code_of (object_of p)) (flat_map code_of (objects_of ps))
       (both_named (present packages) (flat_map (λ (f : PackageFunction). f.function.code) (map translated_function p.functions)) _
       (functions_named p p.functions (all_before IsSound (package_functions p) (all_functions ps) h))
@@ -112,7 +112,7 @@ module _ (packages : List Package) where
 -- no name is missing
 pub names_found : (packages : List Package) → IsWellTyped packages → name_missing (objects_of packages) ≡ false
 names_found packages well =
-    codes_named packages packages well.functions (all_before (IsStart packages) (flat_map package_steps packages) (main_steps (last_package packages)) well.start)
+    codes_named packages packages well.functions (all_before (IsWellTypedStart packages) (flat_map package_steps packages) (main_steps (last_package packages)) well.start)
 
 -- ---- the linker's answer
 

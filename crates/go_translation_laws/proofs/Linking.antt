@@ -9,7 +9,7 @@ use Rattle.go_code.proofs.Limits.{one_may_open}
 use Rattle.go_link.specs.Links.{link_refusal, linked}
 use Rattle.go_typed.specs.Trees.{Package}
 use Rattle.go_meaning.specs.Meaning.{Stuck}
-use Rattle.go_meaning.specs.Programs.{edition_of, last_package, run, SourceMeaning}
+use Rattle.go_meaning.specs.Programs.{program_edition, last_package, run_program, SourceMeaning}
 use Rattle.go_gen.specs.Translation.{object_of}
 use Rattle.go_translation_laws.specs.Programs.{IsLinked}
 use Rattle.go_translation_laws.proofs.Calls.{body_leads}
@@ -38,9 +38,9 @@ all_open : (image : Image) → suc (more_open image) ≡ most_open image.edition
 all_open image = omega (arith, one_may_open image.edition)
 
 -- as many may be in the source
-same_bound : (packages : List Package) (image : Image) → image ≡ linked (map object_of packages) → most_open (edition_of (last_package packages)) ≡ suc (more_open image)
+same_bound : (packages : List Package) (image : Image) → image ≡ linked (map object_of packages) → most_open (program_edition (last_package packages)) ≡ suc (more_open image)
 same_bound packages image l =
-    let same : image.edition ≡ edition_of (last_package packages) = ap (λ (i : Image). i.edition) l ∙ edition_linked packages in
+    let same : image.edition ≡ program_edition (last_package packages) = ap (λ (i : Image). i.edition) l ∙ edition_linked packages in
     ap most_open (sym same) ∙ sym (all_open image)
 
 bodies_lead : (packages : List Package) (image : Image) → image ≡ linked (map object_of packages) → (final : Final) → BodiesLead image final packages (slot_in packages) (linked_number packages) (more_open image)
@@ -58,8 +58,8 @@ pub program_means : (packages : List Package) (image : Image) (ticks : ℕ) (end
 program_means packages image ticks ending output l h = program_follows packages image (more_open image) (same_bound packages image l.1) (bodies_lead packages image l.1) (setups_lead packages image l.1) ticks ending output l.1 h
 
 -- it does nothing else, unless a rule of the language is broken
-pub program_meant : (packages : List Package) (image : Image) (ticks : ℕ) (ending : Ending) (output : List ℕ) → LinksTo packages image → (run packages ticks ≡ Stuck → ⊥) → MachineMeaning image ticks (Ends ending output) → SourceMeaning packages ticks ending output
+pub program_meant : (packages : List Package) (image : Image) (ticks : ℕ) (ending : Ending) (output : List ℕ) → LinksTo packages image → (run_program packages ticks ≡ Stuck → ⊥) → MachineMeaning image ticks (Ends ending output) → SourceMeaning packages ticks ending output
 program_meant packages image ticks ending output l goes h = source_follows packages image (more_open image) (same_bound packages image l.1) (bodies_lead packages image l.1) (setups_lead packages image l.1) ticks ending output l.1 (linked_program packages l.0) goes h
 
-pub program_sense : (packages : List Package) (image : Image) (ticks : ℕ) → LinksTo packages image → (run packages ticks ≡ Stuck → ⊥) → MachineMeaning image ticks BadCode → ⊥
+pub program_sense : (packages : List Package) (image : Image) (ticks : ℕ) → LinksTo packages image → (run_program packages ticks ≡ Stuck → ⊥) → MachineMeaning image ticks BadCode → ⊥
 program_sense packages image ticks l goes h = makes_sense packages image (more_open image) (same_bound packages image l.1) (bodies_lead packages image l.1) (setups_lead packages image l.1) ticks l.1 (linked_program packages l.0) goes h

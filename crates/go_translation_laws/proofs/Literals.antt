@@ -13,7 +13,7 @@ use Rattle.go_code.specs.Operators as operators
 use Rattle.go_typed.specs.Trees as trees
 use Rattle.go_typed.specs.Trees.{Expr, Parts, no_parts, part, expr_type}
 use Rattle.go_meaning.specs.Values.{Value, single, parts, Values, flat, flat_all, is_of, zero_of, or_else, if_gives, to_field, nth, with_nth, updated}
-use Rattle.go_meaning.specs.Meaning.{World, Locals, Calls, given, eval, eval_parts}
+use Rattle.go_meaning.specs.Meaning.{ProgramState, Locals, Calls, typed_or_panic, eval, eval_parts}
 use Rattle.go_gen.specs.Translation.{Places, offset, store, load, zero_code, expr_temps, parts_temps, expr_code, parts_code}
 use Rattle.go_meaning_laws.proofs.Values.{flat_long}
 use Rattle.go_translation_laws.proofs.Shapes.{Among, field_among, element_among, both_true}
@@ -25,7 +25,7 @@ use Rattle.go_translation_laws.proofs.Zeros.{zero_runs}
 -- ---- a part of a value is updated
 
 -- the value with another part there, and where the cells of both parts lie
-pub record Updates (P : Value → World → Type 0) (of : Type') (n : ℕ) (v x : Value) (w : World) : Type 0 where
+pub record Updates (P : Value → ProgramState → Type 0) (of : Type') (n : ℕ) (v x : Value) (w : ProgramState) : Type 0 where
   pub inner : Value
   pub changed : Value
   pub before : List Cell
@@ -37,7 +37,7 @@ pub record Updates (P : Value → World → Type 0) (of : Type') (n : ℕ) (v x 
   pub typed : is_of of changed ≡ true
   pub holds : P changed w
 
-updates_among : (final : Final) (P : Value → World → Type 0) (of : Type') (n : ℕ) (vs : Values) (x inner : Value) (w : World) → is_of of (parts vs) ≡ true → Among vs n inner (offset (underlying of) n) → Onward final P (given of (operators.Gives (parts (with_nth vs n x))) w) → Updates P of n (parts vs) x w
+updates_among : (final : Final) (P : Value → ProgramState → Type 0) (of : Type') (n : ℕ) (vs : Values) (x inner : Value) (w : ProgramState) → is_of of (parts vs) ≡ true → Among vs n inner (offset (underlying of) n) → Onward final P (typed_or_panic of (operators.Gives (parts (with_nth vs n x))) w) → Updates P of n (parts vs) x w
 updates_among final P of n vs x inner w typed at h =
     let g = onward_given final P of (parts (with_nth vs n x)) w h in
     let is : flat_all (with_nth vs n x) ≡ at.before ++ (flat x ++ at.after) = at.renewed x in
@@ -58,15 +58,15 @@ updates_among final P of n vs x inner w typed at h =
       holds = g.1;
     }
 
-part_updates : (final : Final) (P : Value → World → Type 0) (of : Type') (n : ℕ) (vs : Values) (x : Value) (w : World) (o : Option Value) → nth vs n ≡ o → is_of of (parts vs) ≡ true → ((inner : Value) → nth vs n ≡ Some inner → Among vs n inner (offset (underlying of) n)) → Onward final P (given of (if_gives (or_else operators.Senseless o) (λ inner. operators.Gives (parts (with_nth vs n x)))) w) → Updates P of n (parts vs) x w
+part_updates : (final : Final) (P : Value → ProgramState → Type 0) (of : Type') (n : ℕ) (vs : Values) (x : Value) (w : ProgramState) (o : Option Value) → nth vs n ≡ o → is_of of (parts vs) ≡ true → ((inner : Value) → nth vs n ≡ Some inner → Among vs n inner (offset (underlying of) n)) → Onward final P (typed_or_panic of (if_gives (or_else operators.Senseless o) (λ inner. operators.Gives (parts (with_nth vs n x)))) w) → Updates P of n (parts vs) x w
 part_updates final P of n vs x w None e typed among h = absurd h
 part_updates final P of n vs x w (Some inner) e typed among h = updates_among final P of n vs x inner w typed (among inner e) h
 
 -- a declared type's values are its underlying type's
-declared_updates : (P : Value → World → Type 0) (path name : List ℕ) (of : Type') (n : ℕ) (v x : Value) (w : World) → Updates P of n v x w → Updates P (named path name of) n v x w
+declared_updates : (P : Value → ProgramState → Type 0) (path name : List ℕ) (of : Type') (n : ℕ) (v x : Value) (w : ProgramState) → Updates P of n v x w → Updates P (named path name of) n v x w
 declared_updates P path name of n v x w u = record { inner = u.inner; changed = u.changed; before = u.before; after = u.after; was = u.was; is = u.is; place = u.place; size = u.size; typed = u.typed; holds = u.holds }
 
-pub updates : (final : Final) (P : Value → World → Type 0) (of : Type') (n : ℕ) (v x : Value) (w : World) → is_of of v ≡ true → Onward final P (given of (updated (to_field n ∷ []) v x) w) → Updates P of n v x w
+pub updates : (final : Final) (P : Value → ProgramState → Type 0) (of : Type') (n : ℕ) (v x : Value) (w : ProgramState) → is_of of v ≡ true → Onward final P (typed_or_panic of (updated (to_field n ∷ []) v x) w) → Updates P of n v x w
 updates final P of n (single c) x w typed h = absurd h
 updates final P (basic b) n (parts vs) x w typed h = cc
 updates final P (array count u) n (parts vs) x w typed h =
@@ -77,7 +77,7 @@ updates final P (struct fs) n (parts vs) x w typed h =
 updates final P (named path name u) n (parts vs) x w typed h = declared_updates P path name u n (parts vs) x w (updates final P u n (parts vs) x w typed h)
 
 module _ (image : Image) (final : Final) (depth : ℕ) (code : List (Instr ℕ)) (callers : List Frame) (starts : List Start) (p : Places ℕ) (calls : Calls) where
-  abbrev Onto : ℕ → List (Instr ℕ) → List Cell → ℕ → List Cell → World → Type 0
+  abbrev Onto : ℕ → List (Instr ℕ) → List Cell → ℕ → List Cell → ProgramState → Type 0
   Onto t k front m stack w = On image final depth code callers starts p t k front m stack w
 
   abbrev InPlace : Locals → List Cell → Type 0
@@ -89,7 +89,7 @@ module _ (image : Image) (final : Final) (depth : ℕ) (code : List (Instr ℕ))
   -- the value lies in front, and d temporaries of parts before these behind it
   abbrev pub PartsRun : Type' → Parts → Type 0
   PartsRun of ps =
-      (t : ℕ) (locals : Locals) (at d : ℕ) (k : List (Instr ℕ)) (front : List Cell) (m : ℕ) (stack : List Cell) (v : Value) (w : World) → length front ≡ at → d + parts_temps ps ≤ m → InPlace locals front → is_of of v ≡ true →
+      (t : ℕ) (locals : Locals) (at d : ℕ) (k : List (Instr ℕ)) (front : List Cell) (m : ℕ) (stack : List Cell) (v : Value) (w : ProgramState) → length front ≡ at → d + parts_temps ps ≤ m → InPlace locals front → is_of of v ≡ true →
       Onward final (λ u w1. is_of of u ≡ true → Onto t k (front ++ flat u) m stack w1) (eval_parts calls of ps locals v w) →
       Onto t (parts_code p (underlying of) at (at + cells of + d) ps ++ k) (front ++ flat v) m stack w
 
@@ -97,7 +97,7 @@ module _ (image : Image) (final : Final) (depth : ℕ) (code : List (Instr ℕ))
   no_parts_run of t locals at d k front m stack v w long le sits typed h = h typed
 
   -- the part's cells are stored among the value's
-  part_stored : (of size : Type') (n t at : ℕ) (k : List (Instr ℕ)) (front : List Cell) (m : ℕ) (stack : List Cell) (v x : Value) (P : Value → World → Type 0) (w : World) → length front ≡ at → is_of size x ≡ true → (u : Updates P of n v x w) → Onto t k (front ++ flat u.changed) m stack w → Onto t (store (at + offset (underlying of) n) (cells size) ∷ k) (front ++ flat v) m (stack ++ flat x) w
+  part_stored : (of size : Type') (n t at : ℕ) (k : List (Instr ℕ)) (front : List Cell) (m : ℕ) (stack : List Cell) (v x : Value) (P : Value → ProgramState → Type 0) (w : ProgramState) → length front ≡ at → is_of size x ≡ true → (u : Updates P of n v x w) → Onto t k (front ++ flat u.changed) m stack w → Onto t (store (at + offset (underlying of) n) (cells size) ∷ k) (front ++ flat v) m (stack ++ flat x) w
   part_stored of size n t at k front m stack v x P w long typed u on =
       let row : length (flat x) ≡ cells size = flat_long size x typed in
       let place : length (front ++ u.before) ≡ at + offset (underlying of) n = omega (arith, long, u.place, length-append front u.before) in
@@ -119,14 +119,14 @@ module _ (image : Image) (final : Final) (depth : ℕ) (code : List (Instr ℕ))
       (onward_map final _ _ (eval calls e locals w)
       (λ x w1 more is.
       let u = updates final (λ y w2. Onward final (λ z w3. is_of of z ≡ true → Onto t k (front ++ flat z) m stack w3) (eval_parts calls of ps locals y w2)) of n v x w1 typed
-      (onward_then final _ (given of (updated (to_field n ∷ []) v x) w1) _ more) in
+      (onward_then final _ (typed_or_panic of (updated (to_field n ∷ []) v x) w1) _ more) in
       part_stored of (expr_type e) n t at (rest ++ k) front m stack v x _ w1 long is u
       (on_as image final depth code callers starts p t _ _ (front ++ flat u.changed) m stack w1 (ap (λ place. parts_code p (underlying of) at place ps ++ k) next)
       (others t locals at (d + expr_temps e) k front m stack u.changed w1 long (omega (arith, le)) sits u.typed u.holds)))
       (onward_then final _ (eval calls e locals w) _ h)))
 
   -- the whole value, from the first temporaries
-  whole_loaded : (of : Type') (u : Value) (t at : ℕ) (k : List (Instr ℕ)) (front : List Cell) (m : ℕ) (stack : List Cell) (w : World) → length front ≡ at → cells of ≤ m → is_of of u ≡ true → Onto t k front m (stack ++ flat u) w → Onto t (load at (cells of) ∷ k) (front ++ flat u) (m - cells of) stack w
+  whole_loaded : (of : Type') (u : Value) (t at : ℕ) (k : List (Instr ℕ)) (front : List Cell) (m : ℕ) (stack : List Cell) (w : ProgramState) → length front ≡ at → cells of ≤ m → is_of of u ≡ true → Onto t k front m (stack ++ flat u) w → Onto t (load at (cells of) ∷ k) (front ++ flat u) (m - cells of) stack w
   whole_loaded of u t at k front m stack w long le typed on =
       let size : length (flat u) ≡ cells of = flat_long of u typed in
       let shape : front ++ (flat u ++ []) ≡ front ++ flat u = ap (λ l. front ++ l) (append-nil (flat u)) in
@@ -144,7 +144,7 @@ module _ (image : Image) (final : Final) (depth : ℕ) (code : List (Instr ℕ))
       let within : cells of ≤ m = omega (arith, le) in
       let rest : 0 + parts_temps ps ≤ m - cells of = omega (arith, le) in
       let shape : zero_code of ++ (put ∷ (inside ++ (get ∷ k))) ≡ (zero_code of ++ put ∷ inside ++ get ∷ []) ++ k = simp append_assoc in
-      let g = onward_given final _ of (zero_of of) w (onward_then final _ (given of (operators.Gives (zero_of of)) w) _ h) in
+      let g = onward_given final _ of (zero_of of) w (onward_then final _ (typed_or_panic of (operators.Gives (zero_of of)) w) _ h) in
       on_as image final depth code callers starts p t _ _ front m stack w shape
       (zero_runs image final depth code callers starts p of t (put ∷ (inside ++ (get ∷ k))) front m stack w
       (keeps image final depth code callers starts p t at (cells of) row (inside ++ (get ∷ k)) front m stack w long (flat_long of (zero_of of) g.0) within

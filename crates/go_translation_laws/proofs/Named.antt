@@ -12,23 +12,23 @@ use Rattle.go_code.specs.declared.instr.AccessInstr.TheVariants.{Load, LoadAt, S
 use Rattle.go_code.specs.declared.instr.CallInstr.TheVariants.{Call}
 use Rattle.go_code.specs.declared.instr.JumpInstr.TheVariants.{JumpIf, JumpIfNot}
 use Rattle.go_code.specs.declared.operator.Operator as operators
-use Rattle.go_code.specs.Referred.{place_of}
+use Rattle.go_code.specs.Referred.{reference_of}
 use Rattle.go_symbol.specs.Symbols as symbols
 use Rattle.go_symbol.specs.Symbols.{same_symbol}
-use Rattle.go_link.specs.Links.{Held, is_missing}
+use Rattle.go_link.specs.Links.{LinkedVariable, is_missing_symbol}
 use Rattle.go_typed.specs.Trees as trees
-use Rattle.go_typed.specs.Trees.{Symbol, Expr, Exprs, no_exprs, some_exprs, Perhaps, absent, present, Parts, no_parts, part, Steps, here, to_field, to_element, Left, blank, of_local, of_global, of_slice, Source, each, results, zeros, expr_type}
+use Rattle.go_typed.specs.Trees.{Symbol, Expr, Exprs, no_exprs, some_exprs, Perhaps, absent, present, Parts, no_parts, part, Steps, here, to_field, to_element, Left, blank, of_local, of_global, of_slice, ValueSource, each, results, zeros, expr_type}
 use Rattle.go_meaning.specs.Choices.{unary_operators, binary_operators, conversion_operators, length_operators, cut_operators, field_type, element_type}
-use Rattle.go_gen.specs.Translation.{Places, expr_temps, perhaps_temps, load, store, zero_code, zeros_code, operators_code, index_code, decided_code, expr_code, perhaps_code, exprs_code, parts_code, source_code, operands_code, or_type, steps_code, address_code, row_code, left_temps, left_operands, take_code, give_code, lefts_operands, keep_code, keeps_code, gives_code, define_code, defines_code, values_temps}
-use Rattle.go_meaning_laws.specs.WellTyped.{Signature, Setting, IsExpr, IsSize, IsAppended, AreElements, AreExprs, AreParts, IsSource, IsPart, LeadsTo, LeadsInto, AreLefts}
+use Rattle.go_gen.specs.Translation.{Places, expr_temps, perhaps_temps, load, store, zero_code, zeros_code, operators_code, index_code, decided_code, expr_code, perhaps_code, exprs_code, parts_code, source_code, operands_code, or_type, steps_code, address_code, array_access_code, left_temps, left_operands, take_code, give_code, lefts_operands, keep_code, keeps_code, gives_code, define_code, defines_code, values_temps}
+use Rattle.go_meaning_laws.specs.WellTyped.{Signature, Setting, IsExpr, IsSize, IsAppended, AreElements, AreWellTypedExprs, AreParts, IsWellTypedSource, IsWellTypedPart, LeadsTo, LeadsInto, AreLefts}
 
 -- the functions and the package variables that there are
 abbrev pub Present : Type 0
-Present = List symbols.Symbol × List Held
+Present = List symbols.Symbol × List LinkedVariable
 
 -- code that refers to these functions and variables
 abbrev pub Named : Present → List (Instr symbols.Symbol) → Type 0
-Named all code = list_any (is_missing all.0 all.1) code ≡ false
+Named all code = list_any (is_missing_symbol all.0 all.1) code ≡ false
 
 -- each function and each variable that is known is one of these
 abbrev pub Callable : Present → (Symbol → symbols.Symbol) → (Symbol → symbols.Symbol) → Setting → Type 0
@@ -38,11 +38,11 @@ Callable all globals functions g =
 
 module _ (all : Present) where
   pub both_named : (xs ys : List (Instr symbols.Symbol)) → Named all xs → Named all ys → Named all (xs ++ ys)
-  both_named xs ys e d = list_any-append (is_missing all.0 all.1) xs ys ∙ ap (λ b. b || list_any (is_missing all.0 all.1) ys) e ∙ d
+  both_named xs ys e d = list_any-append (is_missing_symbol all.0 all.1) xs ys ∙ ap (λ b. b || list_any (is_missing_symbol all.0 all.1) ys) e ∙ d
 
   -- one instruction and others
-  pub then_named : (i : Instr symbols.Symbol) (xs : List (Instr symbols.Symbol)) → is_missing all.0 all.1 i ≡ false → Named all xs → Named all (i ∷ xs)
-  then_named i xs e d = ap (λ b. b || list_any (is_missing all.0 all.1) xs) e ∙ d
+  pub then_named : (i : Instr symbols.Symbol) (xs : List (Instr symbols.Symbol)) → is_missing_symbol all.0 all.1 i ≡ false → Named all xs → Named all (i ∷ xs)
+  then_named i xs e d = ap (λ b. b || list_any (is_missing_symbol all.0 all.1) xs) e ∙ d
 
   mutual
     zero_named : (t : Type') → Named all (zero_code t)
@@ -72,7 +72,7 @@ module _ (all : Present) where
   index_named (named path name t) = refl
 
   -- a jump over a right side
-  decided_named : (jump : ℕ → Instr symbols.Symbol) → ((n : ℕ) → is_missing all.0 all.1 (jump n) ≡ false) → (answer : Bool) (a b : List (Instr symbols.Symbol)) → Named all a → Named all b → Named all (decided_code jump answer a b)
+  decided_named : (jump : ℕ → Instr symbols.Symbol) → ((n : ℕ) → is_missing_symbol all.0 all.1 (jump n) ≡ false) → (answer : Bool) (a b : List (Instr symbols.Symbol)) → Named all a → Named all b → Named all (decided_code jump answer a b)
   decided_named jump same answer a b e d =
       both_named (a ++ jump (length b + 1) ∷ b) _ (both_named a (jump (length b + 1) ∷ b) e (then_named (jump (length b + 1)) b (same (length b + 1)) d)) refl
 
@@ -81,7 +81,7 @@ module _ (all : Present) where
   call_named s e = rw e refl
 
   -- an access to a variable that there is
-  pub global_named : (i : AccessInstr symbols.Symbol) → list_any (λ v. same_symbol (place_of i) v.0) all.1 ≡ true → Named all (On_globals i ∷ [])
+  pub global_named : (i : AccessInstr symbols.Symbol) → list_any (λ v. same_symbol (reference_of i) v.0) all.1 ≡ true → Named all (On_globals i ∷ [])
   global_named i e = rw e refl
 
   module _ (p : Places symbols.Symbol) (g : Setting) (d : List ℕ) (there : Callable all p.globals p.functions g) where
@@ -139,7 +139,7 @@ module _ (all : Present) where
       elements_named k u no_exprs h = refl
       elements_named k u (some_exprs e es) h = both_named (expr_code p k e) (exprs_code p (k + expr_temps e) es) (expr_named k e h.0) (elements_named (k + expr_temps e) u es h.2)
 
-      pub exprs_named : (k : ℕ) (es : Exprs) → AreExprs g d es → Named all (exprs_code p k es)
+      pub exprs_named : (k : ℕ) (es : Exprs) → AreWellTypedExprs g d es → Named all (exprs_code p k es)
       exprs_named k no_exprs h = refl
       exprs_named k (some_exprs e es) h = both_named (expr_code p k e) (exprs_code p (k + expr_temps e) es) (expr_named k e h.0) (exprs_named (k + expr_temps e) es h.1)
 
@@ -147,7 +147,7 @@ module _ (all : Present) where
       parts_named s t at k no_parts h = refl
       parts_named s t at k (part n e ps) h = both_named (expr_code p k e) _ (expr_named k e h.0) (parts_named s t at (k + expr_temps e) ps h.2)
 
-    pub source_named : (k : ℕ) (s : Source) → IsSource g d s → Named all (source_code p k s)
+    pub source_named : (k : ℕ) (s : ValueSource) → IsWellTypedSource g d s → Named all (source_code p k s)
     source_named k (each es) h = exprs_named k es h
     source_named k (results ts s es) h = both_named (exprs_code p k es) _ (exprs_named k es h.0) (call_named (p.functions s) (there.0 s _ h.1))
     source_named k (zeros ts) h = zeros_of_types ts
@@ -164,7 +164,7 @@ module _ (all : Present) where
     into_named k (to_field n ss) t u h = absurd h
     into_named k (to_element e ss) t u h = both_named (expr_code p k e) _ (expr_named k e h.0) (operands_named (k + expr_temps e + 1) ss t u h.2)
 
-    pub left_named : (k : ℕ) (l : Left) (u : Type') → IsPart g d l u → Named all (left_operands p k l)
+    pub left_named : (k : ℕ) (l : Left) (u : Type') → IsWellTypedPart g d l u → Named all (left_operands p k l)
     left_named k blank u h = refl
     left_named k (of_local t n ss) u h = operands_named k ss t u h.2
     left_named k (of_global t s ss) u h = operands_named k ss t u h.2
@@ -188,25 +188,25 @@ module _ (all : Present) where
   steps_named t k (to_field n ss) = steps_named (or_type t (field_type (underlying t) n)) k ss
   steps_named t k (to_element e ss) = steps_named (or_type t (element_type (underlying t))) (k + expr_temps e + 1) ss
 
-  row_named : (t : Type') (at k : ℕ) (ss : Steps) → Named all (row_code t at k ss)
+  row_named : (t : Type') (at k : ℕ) (ss : Steps) → Named all (array_access_code t at k ss)
   row_named t at k here = refl
   row_named t at k (to_field n ss) = refl
   row_named t at k (to_element e ss) = steps_named (or_type t (element_type (underlying t))) (k + expr_temps e + 1) ss
 
   module _ (p : Places symbols.Symbol) where
-    pub take_named : (g : Setting) (d : List ℕ) → Callable all p.globals p.functions g → (k : ℕ) (l : Left) (n : ℕ) (u : Type') → IsPart g d l u → Named all (take_code p k l n)
+    pub take_named : (g : Setting) (d : List ℕ) → Callable all p.globals p.functions g → (k : ℕ) (l : Left) (n : ℕ) (u : Type') → IsWellTypedPart g d l u → Named all (take_code p k l n)
     take_named g d there k blank n u h = refl
     take_named g d there k (of_local t v ss) n u h = both_named (address_code t k ss) _ (steps_named t k ss) refl
     take_named g d there k (of_global t s ss) n u h = both_named (address_code t k ss) _ (steps_named t k ss) (global_named (LoadAt (p.globals s) n) (there.1 s t h.0))
-    take_named g d there k (of_slice t e ss) n u h = both_named (row_code t (k + expr_temps e) (k + expr_temps e + 1) ss) _ (row_named t (k + expr_temps e) (k + expr_temps e + 1) ss) refl
+    take_named g d there k (of_slice t e ss) n u h = both_named (array_access_code t (k + expr_temps e) (k + expr_temps e + 1) ss) _ (row_named t (k + expr_temps e) (k + expr_temps e + 1) ss) refl
 
-    pub give_named : (g : Setting) (d : List ℕ) → Callable all p.globals p.functions g → (k : ℕ) (l : Left) (temp n : ℕ) (u : Type') → IsPart g d l u → Named all (give_code p k l temp n)
+    pub give_named : (g : Setting) (d : List ℕ) → Callable all p.globals p.functions g → (k : ℕ) (l : Left) (temp n : ℕ) (u : Type') → IsWellTypedPart g d l u → Named all (give_code p k l temp n)
     give_named g d there k blank temp n u h = refl
     give_named g d there k (of_local t v ss) temp n u h = both_named (address_code t k ss) _ (steps_named t k ss) refl
     give_named g d there k (of_global t s ss) temp n u h = both_named (address_code t k ss) _ (steps_named t k ss) (global_named (StoreAt (p.globals s) n) (there.1 s t h.0))
-    give_named g d there k (of_slice t e ss) temp n u h = both_named (row_code t (k + expr_temps e) (k + expr_temps e + 1) ss) _ (row_named t (k + expr_temps e) (k + expr_temps e + 1) ss) refl
+    give_named g d there k (of_slice t e ss) temp n u h = both_named (array_access_code t (k + expr_temps e) (k + expr_temps e + 1) ss) _ (row_named t (k + expr_temps e) (k + expr_temps e + 1) ss) refl
 
-    pub keep_named : (l : Left) (n temp : ℕ) → is_missing all.0 all.1 (keep_code l n temp) ≡ false
+    pub keep_named : (l : Left) (n temp : ℕ) → is_missing_symbol all.0 all.1 (keep_code l n temp) ≡ false
     keep_named blank n temp = refl
     keep_named (of_local t v ss) n temp = refl
     keep_named (of_global t s ss) n temp = refl
@@ -240,7 +240,7 @@ module _ (all : Present) where
         (give_named g d there k (of_slice u e ss) (temps + values_temps ls counts) n t h.0)
         (gives_named g d there (k + left_temps (of_slice u e ss)) ls counts temps ts h.1)
 
-    define_named : (v : Option ℕ) (n : ℕ) → is_missing all.0 all.1 (define_code p v n) ≡ false
+    define_named : (v : Option ℕ) (n : ℕ) → is_missing_symbol all.0 all.1 (define_code p v n) ≡ false
     define_named None n = refl
     define_named (Some v) n = refl
 

@@ -16,8 +16,8 @@ use Rattle.go_typed.specs.Trees as trees
 use Rattle.go_typed.specs.Trees.{Symbol, Expr, Exprs, no_exprs, some_exprs, Stmt, Stmts, no_stmts, some_stmts, Clauses, no_clauses, clause, results, expr_type, Initialization, Package}
 use Rattle.go_meaning.specs.Choices.{binary_operators}
 use Rattle.go_meaning.specs.Programs.{sets}
-use Rattle.go_gen.specs.Translation.{Places, total, slots, expr_temps, source_counts, source_temps, left_temps, lefts_temps, operators_code, load, store, expr_code, source_code, lefts_operands, keeps_code, keep_code, left_operands, take_code, give_code, exprs_code, expr_counts, case_temps, cases_temps, condition_code, stmt_temps, stmts_temps, if_code, loop_code, begin_code, counted_code, count_code, within_code, cases_code, joined, tests_code, leave_code, stmt_code, stmts_code, bodies_code, local_types, translated, sets_code, no_locals, translated_setup}
-use Rattle.go_meaning_laws.specs.WellTyped.{Setting, outside, source_types, AreGiven, IsStart, AreExprs, IsConditionOrNone, IsStmt, AreStmts, AreClauses, after, first, in_loop, in_clause, in_post, numbers, setting, IsFunction}
+use Rattle.go_gen.specs.Translation.{Places, total, slots, expr_temps, source_counts, source_temps, left_temps, lefts_temps, operators_code, load, store, expr_code, source_code, lefts_operands, keeps_code, keep_code, left_operands, take_code, give_code, exprs_code, expr_counts, case_temps, cases_temps, condition_code, stmt_temps, stmts_temps, if_code, loop_code, begin_code, counted_code, count_code, within_code, cases_code, concat_code, tests_code, leave_code, stmt_code, stmts_code, bodies_code, local_types, translated, sets_code, no_locals, translated_setup}
+use Rattle.go_meaning_laws.specs.WellTyped.{Setting, package_setting, source_types, AreGiven, IsWellTypedStart, AreWellTypedExprs, IsConditionOrNone, IsStmt, AreStmts, AreClauses, declared_after, first, inside_loop, inside_clause, in_post, known_numbers, setting, IsWellTypedFunction}
 use Rattle.go_translation_laws.proofs.Named.{Present, Named, Callable, both_named, then_named, operators_named, expr_named, exprs_named, source_named, left_named, lefts_named, take_named, give_named, keep_named, keeps_named, gives_named, defines_named, global_named}
 
 module _ (all : Present) where
@@ -53,7 +53,7 @@ module _ (all : Present) where
 
     -- ---- tests of a switch
 
-    cases_named : (g : Setting) (d : List ℕ) → Callable all p.globals p.functions g → (at : ℕ) (t : Type') (k : ℕ) (es : Exprs) (far : ℕ) → AreExprs g d es → Named all (cases_code p at t k es far)
+    cases_named : (g : Setting) (d : List ℕ) → Callable all p.globals p.functions g → (at : ℕ) (t : Type') (k : ℕ) (es : Exprs) (far : ℕ) → AreWellTypedExprs g d es → Named all (cases_code p at t k es far)
     cases_named g d there at t k no_exprs far h = refl
     cases_named g d there at t k (some_exprs e es) far h =
         let ops = binary_operators (underlying t) (comparison Is_equal) in
@@ -113,7 +113,7 @@ module _ (all : Present) where
           let test : Code = condition_code p (behind + stmts_temps post) o in
           let next : Code = stmts_code p behind post (length test + 1 + b) (length test + 1 + c) in
           loop_named (stmts_code p k body (length next + length test + 1) 0) next test
-          (stmts_named (in_loop g) d there k body (length next + length test + 1) 0 h.2)
+          (stmts_named (inside_loop g) d there k body (length next + length test + 1) 0 h.2)
           (stmts_named (in_post g) d there behind post (length test + 1 + b) (length test + 1 + c) h.1)
           (condition_named g d there (behind + stmts_temps post) o h.0)
       stmt_named g d there k (trees.range_statement o t e body) b c h =
@@ -125,7 +125,7 @@ module _ (all : Present) where
           (both_named all (expr_code p k e) _ (expr_named all p g d there k e h.0) refl)
           (loop_named (counted_code p at o ++ inner) next test
           (both_named all (counted_code p at o) inner (counted_named at o)
-          (stmts_named (in_loop g) (numbers (o ∷ []) ++ d) there (at + 2) body (length next + length test + 1) 0 h.4))
+          (stmts_named (inside_loop g) (known_numbers (o ∷ []) ++ d) there (at + 2) body (length next + length test + 1) 0 h.4))
           (count_named at t) refl)
       stmt_named g d there k (trees.switch_statement e cs) b c h =
           let at : ℕ = k + expr_temps e in
@@ -133,7 +133,7 @@ module _ (all : Present) where
           let bodies : ℕ = first + cases_temps cs in
           let codes : List Code = bodies_code p bodies cs c in
           let tests : Code = tests_code p at (expr_type e) first cs (map length codes) 0 in
-          both_named all (expr_code p k e ++ store at (cells (expr_type e)) ∷ tests) (_ ∷ joined codes)
+          both_named all (expr_code p k e ++ store at (cells (expr_type e)) ∷ tests) (_ ∷ concat_code codes)
           (both_named all (expr_code p k e) (store at (cells (expr_type e)) ∷ tests) (expr_named all p g d there k e h.0)
           (tests_named g d there at (expr_type e) (expr_type e) first cs (map length codes) 0 h.1))
           (bodies_named g d there bodies (expr_type e) cs c h.1)
@@ -148,32 +148,32 @@ module _ (all : Present) where
           let rest : Code = stmts_code p (k + stmt_temps s) ss b c in
           both_named all (stmt_code p k s (length rest + b) (length rest + c)) rest
           (stmt_named g d there k s (length rest + b) (length rest + c) h.0)
-          (stmts_named g (after d s) there (k + stmt_temps s) ss b c h.1)
+          (stmts_named g (declared_after d s) there (k + stmt_temps s) ss b c h.1)
 
       -- the codes of clauses, side by side
-      bodies_named : (g : Setting) (d : List ℕ) → Callable all p.globals p.functions g → (k : ℕ) (t : Type') (cs : Clauses) (c : ℕ) → AreClauses g d t cs → Named all (joined (bodies_code p k cs c))
+      bodies_named : (g : Setting) (d : List ℕ) → Callable all p.globals p.functions g → (k : ℕ) (t : Type') (cs : Clauses) (c : ℕ) → AreClauses g d t cs → Named all (concat_code (bodies_code p k cs c))
       bodies_named g d there k t no_clauses c h = refl
       bodies_named g d there k t (clause None body falls cs) c h =
           let rest : List Code = bodies_code p (k + stmts_temps body) cs c in
-          let n : ℕ = length (joined rest) in
+          let n : ℕ = length (concat_code rest) in
           let leave : Code = leave_code falls n in
           let inner : Code = stmts_code p k body (length leave + n) (length leave + n + c) in
-          both_named all (inner ++ leave) (joined rest)
-          (both_named all inner leave (stmts_named (in_clause g) d there k body (length leave + n) (length leave + n + c) h.0) (leave_named falls n))
+          both_named all (inner ++ leave) (concat_code rest)
+          (both_named all inner leave (stmts_named (inside_clause g) d there k body (length leave + n) (length leave + n + c) h.0) (leave_named falls n))
           (bodies_named g d there (k + stmts_temps body) t cs c h.2)
       bodies_named g d there k t (clause (Some es) body falls cs) c h =
           let rest : List Code = bodies_code p (k + stmts_temps body) cs c in
-          let n : ℕ = length (joined rest) in
+          let n : ℕ = length (concat_code rest) in
           let leave : Code = leave_code falls n in
           let inner : Code = stmts_code p k body (length leave + n) (length leave + n + c) in
-          both_named all (inner ++ leave) (joined rest)
-          (both_named all inner leave (stmts_named (in_clause g) d there k body (length leave + n) (length leave + n + c) h.2) (leave_named falls n))
+          both_named all (inner ++ leave) (concat_code rest)
+          (both_named all inner leave (stmts_named (inside_clause g) d there k body (length leave + n) (length leave + n + c) h.2) (leave_named falls n))
           (bodies_named g d there (k + stmts_temps body) t cs c h.4)
 
   -- ---- functions
 
   -- the code of a function that is well typed in a program whose functions and variables are these
-  pub function_calls_named : (packages : List Package) (globals functions : Symbol → symbols.Symbol) (f : trees.Function) → Callable all globals functions (setting packages f) → IsFunction packages f → Named all (translated globals functions f).code
+  pub function_calls_named : (packages : List Package) (globals functions : Symbol → symbols.Symbol) (f : trees.Function) → Callable all globals functions (setting packages f) → IsWellTypedFunction packages f → Named all (translated globals functions f).code
   function_calls_named packages globals functions f there h =
       let size : ℕ = total (local_types f) in
       let p : Places symbols.Symbol = record { locals = slice_index (slots 0 (local_types f)); globals = globals; functions = functions } in
@@ -192,8 +192,8 @@ module _ (all : Present) where
       both_named all (sets_code p path os counts) _ (sets_named p g there path os counts ts h.1) (global_named all (Store (p.globals s) n) (there.1 s given.0 given.1))
 
   -- the code that gives package variables values of their types
-  pub setup_named : (packages : List Package) (globals functions : Symbol → symbols.Symbol) (path : List ℕ) (i : Initialization) → Callable all globals functions (outside packages) → IsStart packages (sets path i) → Named all (translated_setup globals functions path i).code
+  pub setup_named : (packages : List Package) (globals functions : Symbol → symbols.Symbol) (path : List ℕ) (i : Initialization) → Callable all globals functions (package_setting packages) → IsWellTypedStart packages (sets path i) → Named all (translated_setup globals functions path i).code
   setup_named packages globals functions path i there h =
       let p : Places symbols.Symbol = no_locals globals functions in
-      both_named all (source_code p 0 i.source) _ (source_named all p (outside packages) [] there 0 i.source h.0)
-      (both_named all (sets_code p path i.variables (source_counts i.source)) _ (sets_named p (outside packages) there path i.variables (source_counts i.source) (source_types i.source) h.1) refl)
+      both_named all (source_code p 0 i.source) _ (source_named all p (package_setting packages) [] there 0 i.source h.0)
+      (both_named all (sets_code p path i.variables (source_counts i.source)) _ (sets_named p (package_setting packages) there path i.variables (source_counts i.source) (source_types i.source) h.1) refl)

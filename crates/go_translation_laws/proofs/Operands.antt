@@ -16,7 +16,7 @@ use Rattle.go_typed.specs.Trees as trees
 use Rattle.go_typed.specs.Trees.{Symbol, Expr, Left, blank, of_local, of_global, of_slice}
 use Rattle.go_meaning.specs.Values.{Value, single, parts, flat, Step, to_field}
 use Rattle.go_meaning.specs.Choices.{field_type, element_type}
-use Rattle.go_meaning.specs.Meaning.{World, Gives, Stuck, Locals, Calls, Target, in_local, in_global, in_elements, most_cells, and_then, with_cell, with_type, with_index, eval, steps, aim, aim_all}
+use Rattle.go_meaning.specs.Meaning.{ProgramState, Gives, Stuck, Locals, Calls, Target, in_local, in_global, step_into_elements, most_cells, and_then, with_cell, with_type, with_index, eval, steps, aim, aim_all}
 use Rattle.go_gen.specs.Translation.{Places, total, store, expr_temps, steps_temps, operands_code, expr_code, left_temps, left_operands, lefts_temps, lefts_operands}
 use Rattle.go_translation_laws.proofs.Frames.{together, types_of}
 use Rattle.go_translation_laws.proofs.Runs.{Onward, onward_then, onward_map}
@@ -44,20 +44,20 @@ KeptLefts (l ∷ ls) [] row = ⊥
 KeptLefts (l ∷ ls) (t ∷ ts) row = Both (λ r. KeptLeft l t r) (λ r. KeptLefts ls ts r) (left_temps l) row
 
 module _ (image : Image) (final : Final) (depth : ℕ) (code : List (Instr ℕ)) (callers : List Frame) (starts : List Start) (p : Places ℕ) (types : List Type') where
-  abbrev Goes_on : ℕ → List (Instr ℕ) → Locals → List Cell → ℕ → List Cell → World → Type 0
+  abbrev Goes_on : ℕ → List (Instr ℕ) → Locals → List Cell → ℕ → List Cell → ProgramState → Type 0
   Goes_on t k locals low m stack w = Follows image final depth code callers starts p types t k locals low m stack w
 
-  pub follows_room : (t : ℕ) (k : List (Instr ℕ)) (locals : Locals) (low : List Cell) (m n : ℕ) (stack : List Cell) (w : World) → m ≡ n → Goes_on t k locals low m stack w → Goes_on t k locals low n stack w
+  pub follows_room : (t : ℕ) (k : List (Instr ℕ)) (locals : Locals) (low : List Cell) (m n : ℕ) (stack : List Cell) (w : ProgramState) → m ≡ n → Goes_on t k locals low m stack w → Goes_on t k locals low n stack w
   follows_room t k locals low m n stack w e on = subst (λ r. Goes_on t k locals low r stack w) e on
 
   -- nothing is added to the temporaries
-  pub follows_same : (t : ℕ) (k : List (Instr ℕ)) (locals : Locals) (low : List Cell) (m : ℕ) (stack : List Cell) (w : World) → Goes_on t k locals (low ++ []) (m - 0) stack w → Goes_on t k locals low m stack w
+  pub follows_same : (t : ℕ) (k : List (Instr ℕ)) (locals : Locals) (low : List Cell) (m : ℕ) (stack : List Cell) (w : ProgramState) → Goes_on t k locals (low ++ []) (m - 0) stack w → Goes_on t k locals low m stack w
   follows_same t k locals low m stack w on =
       let room : m - 0 ≡ m = omega arith in
       follows_room t k locals low (m - 0) m stack w room (follows_low image final depth code callers starts p types t k locals (low ++ []) low (m - 0) stack w (append-nil low) on)
 
   -- a row goes from the stack into the first of the temporaries
-  pub follows_keeps : (t at count : ℕ) (row : List Cell) (k : List (Instr ℕ)) (locals : Locals) (low : List Cell) (m : ℕ) (stack : List Cell) (w : World) → types_of locals ≡ types → total types + length low ≡ at → length row ≡ count → count ≤ m → Goes_on t k locals (low ++ row) (m - count) stack w → Goes_on t (store at count ∷ k) locals low m (stack ++ row) w
+  pub follows_keeps : (t at count : ℕ) (row : List Cell) (k : List (Instr ℕ)) (locals : Locals) (low : List Cell) (m : ℕ) (stack : List Cell) (w : ProgramState) → types_of locals ≡ types → total types + length low ≡ at → length row ≡ count → count ≤ m → Goes_on t k locals (low ++ row) (m - count) stack w → Goes_on t (store at count ∷ k) locals low m (stack ++ row) w
   follows_keeps t at count row k locals low m stack w same long size le on rows fits =
       keeps image final depth code callers starts p t at count row k (together rows ++ low) m stack w (row_long image final depth code callers starts p types rows locals low at fits same long) size le
       (on_front image final depth code callers starts p t k (together rows ++ (low ++ row)) _ (m - count) stack w (sym (append_assoc (together rows) low row)) (on rows fits))
@@ -66,7 +66,7 @@ module _ (image : Image) (final : Final) (depth : ℕ) (code : List (Instr ℕ))
     -- what is behind the steps is behind the code of their operands, with the indexes in temporaries
     abbrev pub OperandsRun : trees.Steps → Type 0
     OperandsRun q =
-        (of : Type') (t : ℕ) (locals : Locals) (at : ℕ) (k : List (Instr ℕ)) (low : List Cell) (m : ℕ) (stack : List Cell) (w : World) → types_of locals ≡ types → total types + length low ≡ at → steps_temps q ≤ m →
+        (of : Type') (t : ℕ) (locals : Locals) (at : ℕ) (k : List (Instr ℕ)) (low : List Cell) (m : ℕ) (stack : List Cell) (w : ProgramState) → types_of locals ≡ types → total types + length low ≡ at → steps_temps q ≤ m →
         Onward final (λ ss w1. (row : List Cell) → length row ≡ steps_temps q → Kept of q ss row → Goes_on t k locals (low ++ row) (m - steps_temps q) stack w1) (steps calls of q locals w) →
         Goes_on t (operands_code p at q ++ k) locals low m stack w
 
@@ -82,14 +82,14 @@ module _ (image : Image) (final : Final) (depth : ℕ) (code : List (Instr ℕ))
             (onward_then final _ (steps calls u q locals w) _ h))
 
     -- what is to hold behind an element's operand and the others
-    abbrev Behind : Type' → Expr → trees.Steps → ℕ → List (Instr ℕ) → Locals → List Cell → ℕ → List Cell → List Step → World → Type 0
+    abbrev Behind : Type' → Expr → trees.Steps → ℕ → List (Instr ℕ) → Locals → List Cell → ℕ → List Cell → List Step → ProgramState → Type 0
     Behind of e q t k locals low m stack ss w =
         (row : List Cell) → length row ≡ expr_temps e + 1 + steps_temps q → Kept of (trees.to_element e q) ss row → Goes_on t k locals (low ++ row) (m - (expr_temps e + 1 + steps_temps q)) stack w
 
     element_operands : (e : Expr) (q : trees.Steps) → OperandsRun q → OperandsRun (trees.to_element e q)
     element_operands e q runs of t locals at k low m stack w same long le h = by_type (element_type (underlying of)) refl h
       where
-        by_index : (u : Type') → element_type (underlying of) ≡ Some u → (v : Value) (w1 : World) → Onward final (Behind of e q t k locals low m stack) (with_index v w1 (λ s. and_then (steps calls u q locals w1) (λ ss w2. Gives (s ∷ ss) w2))) → Goes_on t (store (at + expr_temps e) 1 ∷ (operands_code p (at + expr_temps e + 1) q ++ k)) locals low m (stack ++ flat v) w1
+        by_index : (u : Type') → element_type (underlying of) ≡ Some u → (v : Value) (w1 : ProgramState) → Onward final (Behind of e q t k locals low m stack) (with_index v w1 (λ s. and_then (steps calls u q locals w1) (λ ss w2. Gives (s ∷ ss) w2))) → Goes_on t (store (at + expr_temps e) 1 ∷ (operands_code p (at + expr_temps e + 1) q ++ k)) locals low m (stack ++ flat v) w1
         by_index u found (single (Truth b)) w1 h = absurd h
         by_index u found (single (Text s)) w1 h = absurd h
         by_index u found (single (Slice r s n c)) w1 h = absurd h
@@ -131,7 +131,7 @@ module _ (image : Image) (final : Final) (depth : ℕ) (code : List (Instr ℕ))
     -- what is behind the target of a left side is behind its operands
     abbrev pub AimRuns : Left → Type 0
     AimRuns l =
-        (t : ℕ) (locals : Locals) (at : ℕ) (k : List (Instr ℕ)) (low : List Cell) (m : ℕ) (stack : List Cell) (w : World) → types_of locals ≡ types → total types + length low ≡ at → left_temps l ≤ m →
+        (t : ℕ) (locals : Locals) (at : ℕ) (k : List (Instr ℕ)) (low : List Cell) (m : ℕ) (stack : List Cell) (w : ProgramState) → types_of locals ≡ types → total types + length low ≡ at → left_temps l ≤ m →
         Onward final (λ target w1. (row : List Cell) → length row ≡ left_temps l → KeptLeft l target row → Goes_on t k locals (low ++ row) (m - left_temps l) stack w1) (aim calls l locals w) →
         Goes_on t (left_operands p at l ++ k) locals low m stack w
 
@@ -158,14 +158,14 @@ module _ (image : Image) (final : Final) (depth : ℕ) (code : List (Instr ℕ))
             (onward_then final _ (steps calls u q locals w) _ h))
 
     -- an index comes first into the elements of a slice
-    sliced_goes : (u v : Type') (e : Expr) (q : trees.Steps) (c : Cell) (n : ℕ) (Q : List Cell → World → Type 0) (w : World) → element_type (underlying u) ≡ Some v → (ss : List Step) (more row : List Cell) → length more ≡ expr_temps e → length (more ++ c ∷ row) ≡ n → Onward final (λ target w1. (r : List Cell) → length r ≡ n → KeptLeft (of_slice u e q) target r → Q r w1) (in_elements v (single c) ss w) → Kept u q ss row → Q (more ++ c ∷ row) w
+    sliced_goes : (u v : Type') (e : Expr) (q : trees.Steps) (c : Cell) (n : ℕ) (Q : List Cell → ProgramState → Type 0) (w : ProgramState) → element_type (underlying u) ≡ Some v → (ss : List Step) (more row : List Cell) → length more ≡ expr_temps e → length (more ++ c ∷ row) ≡ n → Onward final (λ target w1. (r : List Cell) → length r ≡ n → KeptLeft (of_slice u e q) target r → Q r w1) (step_into_elements v (single c) ss w) → Kept u q ss row → Q (more ++ c ∷ row) w
     sliced_goes u v e q c n Q w found [] more row size whole goes kept = absurd goes
     sliced_goes u v e q c n Q w found (s ∷ ss) more row size whole goes kept =
         goes (more ++ c ∷ row) whole (found, record { first = more; cell = c; others = row; value = refl; is = refl; long = size; holds = kept })
 
     -- behind the slice, whose cell comes into its temporary first
-    slice_kept : (u v : Type') (e : Expr) (q : trees.Steps) → element_type (underlying u) ≡ Some v → (t : ℕ) (locals : Locals) (at : ℕ) (k : List (Instr ℕ)) (low : List Cell) (m : ℕ) (stack : List Cell) (w : World) → types_of locals ≡ types → total types + length low ≡ at → expr_temps e + 1 + steps_temps q ≤ m → (x : Value) →
-        Onward final (λ target w1. (row : List Cell) → length row ≡ expr_temps e + 1 + steps_temps q → KeptLeft (of_slice u e q) target row → Goes_on t k locals (low ++ row) (m - (expr_temps e + 1 + steps_temps q)) stack w1) (with_cell x (and_then (steps calls u q locals w) (in_elements v x))) →
+    slice_kept : (u v : Type') (e : Expr) (q : trees.Steps) → element_type (underlying u) ≡ Some v → (t : ℕ) (locals : Locals) (at : ℕ) (k : List (Instr ℕ)) (low : List Cell) (m : ℕ) (stack : List Cell) (w : ProgramState) → types_of locals ≡ types → total types + length low ≡ at → expr_temps e + 1 + steps_temps q ≤ m → (x : Value) →
+        Onward final (λ target w1. (row : List Cell) → length row ≡ expr_temps e + 1 + steps_temps q → KeptLeft (of_slice u e q) target row → Goes_on t k locals (low ++ row) (m - (expr_temps e + 1 + steps_temps q)) stack w1) (with_cell x (and_then (steps calls u q locals w) (step_into_elements v x))) →
         Goes_on t (store (at + expr_temps e) 1 ∷ (operands_code p (at + expr_temps e + 1) q ++ k)) locals low m (stack ++ flat x) w
     slice_kept u v e q found t locals at k low m stack w same long le (parts vs) h = absurd h
     slice_kept u v e q found t locals at k low m stack w same long le (single c) h =
@@ -191,10 +191,10 @@ module _ (image : Image) (final : Final) (depth : ℕ) (code : List (Instr ℕ))
     slice_aim u e q t locals at k low m stack w same long le h = by_type (element_type (underlying u)) refl h
       where
         -- what is to hold behind the target
-        Aimed : Target → World → Type 0
+        Aimed : Target → ProgramState → Type 0
         Aimed target w1 = (row : List Cell) → length row ≡ expr_temps e + 1 + steps_temps q → KeptLeft (of_slice u e q) target row → Goes_on t k locals (low ++ row) (m - (expr_temps e + 1 + steps_temps q)) stack w1
 
-        by_room : (v : Type') → element_type (underlying u) ≡ Some v → (b : Bool) → Onward final Aimed (if b then and_then (eval calls e locals w) (λ x w1. with_cell x (and_then (steps calls u q locals w1) (in_elements v x))) else Stuck) → Goes_on t ((expr_code p at e ++ store (at + expr_temps e) 1 ∷ operands_code p (at + expr_temps e + 1) q) ++ k) locals low m stack w
+        by_room : (v : Type') → element_type (underlying u) ≡ Some v → (b : Bool) → Onward final Aimed (if b then and_then (eval calls e locals w) (λ x w1. with_cell x (and_then (steps calls u q locals w1) (step_into_elements v x))) else Stuck) → Goes_on t ((expr_code p at e ++ store (at + expr_temps e) 1 ∷ operands_code p (at + expr_temps e + 1) q) ++ k) locals low m stack w
         by_room v found false h = absurd h
         by_room v found true h =
             let enough : expr_temps e ≤ m = omega (arith, le) in
@@ -203,7 +203,7 @@ module _ (image : Image) (final : Final) (depth : ℕ) (code : List (Instr ℕ))
             (expr_follows image final depth code callers starts p types placed calls e (every e) t locals at behind low m stack w same long enough
             (onward_map final _ _ (eval calls e locals w) (λ x w1 more typed. slice_kept u v e q found t locals at k low m stack w1 same long le x more) (onward_then final _ (eval calls e locals w) _ h)))
 
-        by_type : (o : Option Type') → element_type (underlying u) ≡ o → Onward final Aimed (with_type o (λ v. if nat_le (cells v) most_cells then and_then (eval calls e locals w) (λ x w1. with_cell x (and_then (steps calls u q locals w1) (in_elements v x))) else Stuck)) → Goes_on t ((expr_code p at e ++ store (at + expr_temps e) 1 ∷ operands_code p (at + expr_temps e + 1) q) ++ k) locals low m stack w
+        by_type : (o : Option Type') → element_type (underlying u) ≡ o → Onward final Aimed (with_type o (λ v. if nat_le (cells v) most_cells then and_then (eval calls e locals w) (λ x w1. with_cell x (and_then (steps calls u q locals w1) (step_into_elements v x))) else Stuck)) → Goes_on t ((expr_code p at e ++ store (at + expr_temps e) 1 ∷ operands_code p (at + expr_temps e + 1) q) ++ k) locals low m stack w
         by_type None found h = absurd h
         by_type (Some v) found h = by_room v found (nat_le (cells v) most_cells) h
 
@@ -215,7 +215,7 @@ module _ (image : Image) (final : Final) (depth : ℕ) (code : List (Instr ℕ))
 
     abbrev pub AimsRun : List Left → Type 0
     AimsRun ls =
-        (t : ℕ) (locals : Locals) (at : ℕ) (k : List (Instr ℕ)) (low : List Cell) (m : ℕ) (stack : List Cell) (w : World) → types_of locals ≡ types → total types + length low ≡ at → lefts_temps ls ≤ m →
+        (t : ℕ) (locals : Locals) (at : ℕ) (k : List (Instr ℕ)) (low : List Cell) (m : ℕ) (stack : List Cell) (w : ProgramState) → types_of locals ≡ types → total types + length low ≡ at → lefts_temps ls ≤ m →
         Onward final (λ targets w1. (row : List Cell) → length row ≡ lefts_temps ls → KeptLefts ls targets row → Goes_on t k locals (low ++ row) (m - lefts_temps ls) stack w1) (aim_all calls ls locals w) →
         Goes_on t (lefts_operands p at ls ++ k) locals low m stack w
 

@@ -11,7 +11,6 @@ use Rattle.go_types.specs.Types.{Type'}
 use Rattle.go_types.specs.Relations.{underlying}
 use Rattle.go_code.specs.declared.cell.Cell.{Cell}
 use Rattle.go_code.specs.declared.cell.Cell.TheVariants.{Int, Bool as Truth, Text, Slice}
-use Rattle.go_code.specs.declared.ending.Ending.TheVariants.{Cut}
 use Rattle.go_code.specs.declared.image.Start.{Start}
 use Rattle.go_code.specs.declared.instr.Instr.{Instr}
 use Rattle.go_code.specs.declared.instr.Instr.TheVariants.{Frame as In_frame, Jump as Go_to}
@@ -30,7 +29,7 @@ use Rattle.go_typed.specs.Trees as trees
 use Rattle.go_typed.specs.Trees.{Expr, Stmt, Stmts}
 use Rattle.go_meaning.specs.Values.{Value, single, parts, flat, is_of}
 use Rattle.go_meaning.specs.Choices.{binary_operators}
-use Rattle.go_meaning.specs.Meaning.{World, Outcome, Ends, Locals, Flow, Normal, Breaks, Continues, Returns, Calls, and_then, with_tick, given, if_known, defined, turned, walk, walk_to, normal, eval, exec_all}
+use Rattle.go_meaning.specs.Meaning.{ProgramState, Outcome, Locals, Flow, Normal, Breaks, Continues, Returns, Calls, and_then, with_tick, typed_or_panic, if_known, defined, after_turn, walk, walk_to, normal, eval, exec_all}
 use Rattle.go_gen.specs.Translation.{Places, total, load, store, expr_temps, expr_code, stmts_temps, stmts_code, begin_code, counted_code, within_code, loop_code}
 use Rattle.go_translation_laws.proofs.Frames.{together, types_of}
 use Rattle.go_translation_laws.proofs.Runs.{Onward, onward_then, onward_map, onward_given, On}
@@ -38,24 +37,24 @@ use Rattle.go_translation_laws.proofs.Exprs.{Runs}
 use Rattle.go_translation_laws.proofs.Rows.{on_front}
 use Rattle.go_translation_laws.proofs.Following.{Past, past_more, past_over, past_none, Placed, Follows, After, StmtRuns, StmtsRun, follows_as, follows_low, row_long, on_fewer, after_fewer, follows_deeper, after_shallower, expr_follows, jumps}
 use Rattle.go_translation_laws.proofs.Defines.{local_stores}
-use Rattle.go_translation_laws.proofs.Loops.{loop_cuts, loop_goes, loop_stops}
+use Rattle.go_translation_laws.proofs.Loops.{loop_cuts, loop_goes, loop_stops, tick_cuts}
 use Rattle.go_translation_laws.proofs.Counters.{integer_type, counted_up, compares_below, compares_negative, pushes, loads_second, stores_first, stores_second, within_follows, up_code, up_follows}
 
 module _ (image : Image) (final : Final) (depth : ℕ) (code : List (Instr ℕ)) (callers : List Frame) (starts : List Start) (p : Places ℕ) (types : List Type') where
-  abbrev Onto : ℕ → List (Instr ℕ) → List Cell → ℕ → List Cell → World → Type 0
+  abbrev Onto : ℕ → List (Instr ℕ) → List Cell → ℕ → List Cell → ProgramState → Type 0
   Onto t k front m stack w = On image final depth code callers starts p t k front m stack w
 
-  abbrev Goes_on : ℕ → List (Instr ℕ) → Locals → List Cell → ℕ → List Cell → World → Type 0
+  abbrev Goes_on : ℕ → List (Instr ℕ) → Locals → List Cell → ℕ → List Cell → ProgramState → Type 0
   Goes_on t k locals low m stack w = Follows image final depth code callers starts p types t k locals low m stack w
 
-  abbrev Then : ℕ → List (Instr ℕ) → List (Instr ℕ) → List (Instr ℕ) → List Cell → ℕ → Flow → World → Type 0
+  abbrev Then : ℕ → List (Instr ℕ) → List (Instr ℕ) → List (Instr ℕ) → List Cell → ℕ → Flow → ProgramState → Type 0
   Then t rest brk next low m flow w = After image final depth code callers starts p types t rest brk next low m flow w
 
   -- rows, and two cells behind temporaries of others
-  two_behind : (t : ℕ) (k : List (Instr ℕ)) (rows : List (List Cell)) (low : List Cell) (x y : Cell) (m : ℕ) (stack : List Cell) (w : World) → Onto t k ((together rows ++ low) ++ x ∷ y ∷ []) m stack w → Onto t k (together rows ++ (low ++ x ∷ y ∷ [])) m stack w
+  two_behind : (t : ℕ) (k : List (Instr ℕ)) (rows : List (List Cell)) (low : List Cell) (x y : Cell) (m : ℕ) (stack : List Cell) (w : ProgramState) → Onto t k ((together rows ++ low) ++ x ∷ y ∷ []) m stack w → Onto t k (together rows ++ (low ++ x ∷ y ∷ [])) m stack w
   two_behind t k rows low x y m stack w on = on_front image final depth code callers starts p t k _ _ m stack w (append_assoc (together rows) low (x ∷ y ∷ [])) on
 
-  two_apart : (t : ℕ) (k : List (Instr ℕ)) (rows : List (List Cell)) (low : List Cell) (x y : Cell) (m : ℕ) (stack : List Cell) (w : World) → Onto t k (together rows ++ (low ++ x ∷ y ∷ [])) m stack w → Onto t k ((together rows ++ low) ++ x ∷ y ∷ []) m stack w
+  two_apart : (t : ℕ) (k : List (Instr ℕ)) (rows : List (List Cell)) (low : List Cell) (x y : Cell) (m : ℕ) (stack : List Cell) (w : ProgramState) → Onto t k (together rows ++ (low ++ x ∷ y ∷ [])) m stack w → Onto t k ((together rows ++ low) ++ x ∷ y ∷ []) m stack w
   two_apart t k rows low x y m stack w on = on_front image final depth code callers starts p t k _ _ m stack w (sym (append_assoc (together rows) low (x ∷ y ∷ []))) on
 
   module _ (placed : Placed image final depth code callers starts p types) (calls : Calls) where
@@ -100,37 +99,38 @@ module _ (image : Image) (final : Final) (depth : ℕ) (code : List (Instr ℕ))
       lows n = low ++ Int z ∷ Int (pos n) ∷ []
 
       -- behind the loop they hold anything
-      abbrev Leaves : ℕ → Flow → World → Type 0
+      abbrev Leaves : ℕ → Flow → ProgramState → Type 0
       Leaves t flow w = (x y : Cell) → Then t rest brk next (low ++ x ∷ y ∷ []) m flow w
 
-      abbrev Walk : ℕ → ℕ → Locals → World → Outcome Flow
-      Walk n count ls w = walk n count h o (exec_all calls body) ls w
+      -- with n ticks left
+      abbrev Walk : ℕ → ℕ → Locals → ProgramState → Outcome Flow
+      Walk n count ls w = walk (suc n) count h o (exec_all calls body) ls w
 
       abbrev Tests : ℕ → ℕ → ℕ → Type 0
-      Tests n count t = (ls : Locals) (w : World) → types_of ls ≡ types → Onward final (Leaves t) (Walk n count ls w) → Goes_on n from_test ls (lows count) m [] w
+      Tests n count t = (ls : Locals) (w : ProgramState) → types_of ls ≡ types → Onward final (Leaves t) (Walk n count ls w) → Goes_on n from_test ls (lows count) m [] w
 
       -- the counter is tested
-      test_follows : (t count : ℕ) (b : Bool) (ls : Locals) (w : World) → types_of ls ≡ types → nat_lt count h ≡ b → Goes_on t (Go_to (LoopIf size) ∷ rest) ls (lows count) m (Truth b ∷ []) w → Goes_on t from_test ls (lows count) m [] w
+      test_follows : (t count : ℕ) (b : Bool) (ls : Locals) (w : ProgramState) → types_of ls ≡ types → nat_lt count h ≡ b → Goes_on t (Go_to (LoopIf size) ∷ rest) ls (lows count) m (Truth b ∷ []) w → Goes_on t from_test ls (lows count) m [] w
       test_follows t count b ls w same e on rows fits =
           two_behind t from_test rows low (Int z) (Int (pos count)) m [] w
           (within_follows image final depth code callers starts p at (together rows ++ low) (row_long image final depth code callers starts p types rows ls low at fits same long) t m (Go_to (LoopIf size) ∷ rest) z count b w (below count ∙ e)
           (two_apart t (Go_to (LoopIf size) ∷ rest) rows low (Int z) (Int (pos count)) m (Truth b ∷ []) w (on rows fits)))
 
       -- and counted up behind the body
-      post_follows : (n count t : ℕ) → nat_lt count h ≡ true → Tests n (count + 1) t → (ls : Locals) (w : World) → types_of ls ≡ types → Onward final (Leaves t) (Walk n (count + 1) ls w) → Goes_on n (post_code ++ from_test) ls (lows count) m [] w
+      post_follows : (n count t : ℕ) → nat_lt count h ≡ true → Tests n (count + 1) t → (ls : Locals) (w : ProgramState) → types_of ls ≡ types → Onward final (Leaves t) (Walk n (count + 1) ls w) → Goes_on n (post_code ++ from_test) ls (lows count) m [] w
       post_follows n count t less tests ls w same on rows fits =
           two_behind n (post_code ++ from_test) rows low (Int z) (Int (pos count)) m [] w
           (up_follows image final depth code callers starts p at (together rows ++ low) (row_long image final depth code callers starts p types rows ls low at fits same long) n m from_test kind (Int z) count w (up count less)
           (two_apart n from_test rows low (Int z) (Int (pos (count + 1))) m [] w (tests ls w same on rows fits)))
 
-      after_body : (n count t : ℕ) → n ≤ t → nat_lt count h ≡ true → Tests n (count + 1) t → (flow : Flow) (w : World) → Onward final (Leaves t) (turned (Walk n (count + 1)) flow w) → Then n (post_code ++ from_test) rest (post_code ++ from_test) (lows count) m flow w
+      after_body : (n count t : ℕ) → n ≤ t → nat_lt count h ≡ true → Tests n (count + 1) t → (flow : Flow) (w : ProgramState) → Onward final (Leaves t) (after_turn (Walk n (count + 1)) flow w) → Then n (post_code ++ from_test) rest (post_code ++ from_test) (lows count) m flow w
       after_body n count t few less tests (Normal ls) w on = λ same. post_follows n count t less tests ls w same on
       after_body n count t few less tests (Breaks ls) w on = λ same rows fits. on_fewer image final depth code callers starts p types t n rest (together rows ++ lows count) m [] w few (on (Int z) (Int (pos count)) same rows fits)
       after_body n count t few less tests (Continues ls) w on = λ same. post_follows n count t less tests ls w same on
       after_body n count t few less tests (Returns vs) w on = after_fewer image final depth code callers starts p types t n rest brk next (lows count) m few (Returns vs) w (on (Int z) (Int (pos count)))
 
       -- the variable gets the counter
-      counter_follows : (o : Option ℕ) (n count : ℕ) (k : List (Instr ℕ)) (ls : Locals) (w : World) → types_of ls ≡ types → Onward final (λ ls1 w1. types_of ls1 ≡ types → Goes_on n k ls1 (lows count) m [] w1) (if_known (defined (o ∷ []) (single (Int (pos count)) ∷ []) ls) w) → Goes_on n (counted_code p at o ++ k) ls (lows count) m [] w
+      counter_follows : (o : Option ℕ) (n count : ℕ) (k : List (Instr ℕ)) (ls : Locals) (w : ProgramState) → types_of ls ≡ types → Onward final (λ ls1 w1. types_of ls1 ≡ types → Goes_on n k ls1 (lows count) m [] w1) (if_known (defined (o ∷ []) (single (Int (pos count)) ∷ []) ls) w) → Goes_on n (counted_code p at o ++ k) ls (lows count) m [] w
       counter_follows None n count k ls w same on = on same
       counter_follows (Some v) n count k ls w same on = λ rows fits.
           two_behind n (load (at + 1) 1 ∷ store (p.locals v) 1 ∷ k) rows low (Int z) (Int (pos count)) m [] w
@@ -139,7 +139,7 @@ module _ (image : Image) (final : Final) (depth : ℕ) (code : List (Instr ℕ))
           (local_stores image final depth code callers starts p types placed n v (single (Int (pos count))) k ls (lows count) m [] w same on rows fits)))
 
       -- a turn
-      turn_follows : (n count t : ℕ) → n ≤ t → nat_lt count h ≡ true → Tests n (count + 1) t → (ls : Locals) (w : World) → types_of ls ≡ types → Onward final (Leaves t) (and_then (if_known (defined (o ∷ []) (single (Int (pos count)) ∷ []) ls) w) (λ ls1 w1. and_then (exec_all calls body ls1 w1) (turned (Walk n (count + 1))))) → Goes_on n whole ls (lows count) m [] w
+      turn_follows : (n count t : ℕ) → n ≤ t → nat_lt count h ≡ true → Tests n (count + 1) t → (ls : Locals) (w : ProgramState) → types_of ls ≡ types → Onward final (Leaves t) (and_then (if_known (defined (o ∷ []) (single (Int (pos count)) ∷ []) ls) w) (λ ls1 w1. and_then (exec_all calls body ls1 w1) (after_turn (Walk n (count + 1))))) → Goes_on n whole ls (lows count) m [] w
       turn_follows n count t few less tests ls w same on =
           let far : ℕ = length post_code + length test_code + 1 in
           let there : total types + length (lows count) ≡ at + 2 = omega (arith, long, length-append low (Int z ∷ Int (pos count) ∷ [])) in
@@ -152,10 +152,10 @@ module _ (image : Image) (final : Final) (depth : ℕ) (code : List (Instr ℕ))
           (onward_then final _ (if_known (defined (o ∷ []) (single (Int (pos count)) ∷ []) ls) w) _ on)))
 
       -- behind the test, where turns may follow, and where none may
-      abbrev Turn : ℕ → ℕ → Locals → World → Outcome Flow
-      Turn n count ls w = and_then (if_known (defined (o ∷ []) (single (Int (pos count)) ∷ []) ls) w) (λ ls1 w1. and_then (exec_all calls body ls1 w1) (turned (Walk n (count + 1))))
+      abbrev Turn : ℕ → ℕ → Locals → ProgramState → Outcome Flow
+      Turn n count ls w = and_then (if_known (defined (o ∷ []) (single (Int (pos count)) ∷ []) ls) w) (λ ls1 w1. and_then (exec_all calls body ls1 w1) (after_turn (Walk n (count + 1))))
 
-      more_follow : (n count t q : ℕ) → suc n ≤ t → Stands code q whole → Tests n (count + 1) t → (ls : Locals) (w : World) → types_of ls ≡ types → (b : Bool) → nat_lt count h ≡ b → Onward final (Leaves t) (if b then with_tick w (Turn n count ls) else normal ls w) → Goes_on (suc n) (Go_to (LoopIf size) ∷ rest) ls (lows count) m (Truth b ∷ []) w
+      more_follow : (n count t q : ℕ) → suc n ≤ t → Stands code q whole → Tests n (count + 1) t → (ls : Locals) (w : ProgramState) → types_of ls ≡ types → (b : Bool) → nat_lt count h ≡ b → Onward final (Leaves t) (if b then with_tick w (Turn n count ls) else normal ls w) → Goes_on (suc n) (Go_to (LoopIf size) ∷ rest) ls (lows count) m (Truth b ∷ []) w
       more_follow n count t q few start tests ls w same true less on = λ rows fits.
           let fewer : n ≤ t = omega (arith, few) in
           loop_goes image final depth code callers starts p types (Leaves t) size whole ((body_code ++ post_code) ++ test_code) rest q (together rows ++ lows count) m [] w (Turn n count ls) n start whole_shape whole_long
@@ -164,18 +164,18 @@ module _ (image : Image) (final : Final) (depth : ℕ) (code : List (Instr ℕ))
           loop_stops image final depth code callers starts p types (suc n) size rest (together rows ++ lows count) m [] w
           (on_fewer image final depth code callers starts p types t (suc n) rest (together rows ++ lows count) m [] w few (on (Int z) (Int (pos count)) same rows fits))
 
-      none_follow : (count t q : ℕ) → Stands code q whole → (ls : Locals) (w : World) → types_of ls ≡ types → (b : Bool) → Onward final (Leaves t) (if b then Ends Cut w.output else normal ls w) → Goes_on 0 (Go_to (LoopIf size) ∷ rest) ls (lows count) m (Truth b ∷ []) w
-      none_follow count t q start ls w same true on = λ rows fits known none.
+      none_follow : (count t q : ℕ) (turn : ProgramState → Outcome Flow) → Stands code q whole → (ls : Locals) (w : ProgramState) → types_of ls ≡ types → (b : Bool) → Onward final (Leaves t) (if b then with_tick w turn else normal ls w) → Goes_on 0 (Go_to (LoopIf size) ∷ rest) ls (lows count) m (Truth b ∷ []) w
+      none_follow count t q turn start ls w same true on = λ rows fits known none.
           let over : w.ticks ≡ zero = omega (arith, none) in
-          loop_cuts image final depth code callers starts p types size whole ((body_code ++ post_code) ++ test_code) rest q (together rows ++ lows count) m [] w start whole_shape whole_long over 0 on known none
-      none_follow count t q start ls w same false on = λ rows fits.
+          loop_cuts image final depth code callers starts p types size whole ((body_code ++ post_code) ++ test_code) rest q (together rows ++ lows count) m [] w start whole_shape whole_long over 0 (tick_cuts image final depth code callers starts p types (Leaves t) w turn over on) known none
+      none_follow count t q turn start ls w same false on = λ rows fits.
           let few : 0 ≤ t = omega arith in
           loop_stops image final depth code callers starts p types 0 size rest (together rows ++ lows count) m [] w
           (on_fewer image final depth code callers starts p types t 0 rest (together rows ++ lows count) m [] w few (on (Int z) (Int (pos count)) same rows fits))
 
       walk_follows : (n count t q : ℕ) → n ≤ t → Stands code q whole → Tests n count t
       walk_follows zero count t q few start ls w same on =
-          test_follows 0 count (nat_lt count h) ls w same refl (none_follow count t q start ls w same (nat_lt count h) on)
+          test_follows 0 count (nat_lt count h) ls w same refl (none_follow count t q (λ w1. and_then (if_known (defined (o ∷ []) (single (Int (pos count)) ∷ []) ls) w1) (λ ls1 w2. and_then (exec_all calls body ls1 w2) (after_turn (walk zero (count + 1) h o (exec_all calls body))))) start ls w same (nat_lt count h) on)
       walk_follows (suc n) count t q few start ls w same on =
           let fewer : n ≤ t = omega (arith, few) in
           test_follows (suc n) count (nat_lt count h) ls w same refl (more_follow n count t q few start (walk_follows n (count + 1) t q fewer start) ls w same (nat_lt count h) refl on)
@@ -184,7 +184,7 @@ module _ (image : Image) (final : Final) (depth : ℕ) (code : List (Instr ℕ))
       abbrev far : ℕ
       far = length body_code + length post_code
 
-      turns_follow : (t : ℕ) (ls : Locals) (w : World) → types_of ls ≡ types → Onward final (Leaves t) (Walk w.ticks 0 ls w) → Goes_on t (Go_to (Jump far) ∷ whole) ls (lows 0) m [] w
+      turns_follow : (t : ℕ) (ls : Locals) (w : ProgramState) → types_of ls ≡ types → Onward final (Leaves t) (Walk w.ticks 0 ls w) → Goes_on t (Go_to (Jump far) ∷ whole) ls (lows 0) m [] w
       turns_follow t ls w same on rows fits known few place high size1 s =
           let start = stands_next code place _ whole s in
           let past : Past whole far from_test = past_more body_code (post_code ++ from_test) (length post_code) far from_test refl (past_over post_code from_test (length post_code) refl) in
@@ -196,7 +196,7 @@ module _ (image : Image) (final : Final) (depth : ℕ) (code : List (Instr ℕ))
       abbrev entry : List (Instr ℕ)
       entry = begin_code at ++ (Go_to (Jump far) ∷ whole)
 
-      begin_follows : (t : ℕ) (ls : Locals) (x y : Cell) (w : World) → types_of ls ≡ types → Onward final (Leaves t) (Walk w.ticks 0 ls w) → Goes_on t entry ls (low ++ x ∷ y ∷ []) m (Int z ∷ []) w
+      begin_follows : (t : ℕ) (ls : Locals) (x y : Cell) (w : ProgramState) → types_of ls ≡ types → Onward final (Leaves t) (Walk w.ticks 0 ls w) → Goes_on t entry ls (low ++ x ∷ y ∷ []) m (Int z ∷ []) w
       begin_follows t ls x y w same on = λ rows fits.
           let front = together rows ++ low in
           let size1 : length front ≡ at = row_long image final depth code callers starts p types rows ls low at fits same long in
@@ -238,7 +238,7 @@ module _ (image : Image) (final : Final) (depth : ℕ) (code : List (Instr ℕ))
         let inner : (((bod ++ post) ++ test) ++ (back ∷ [])) ++ rest ≡ bod ++ (post ++ (test ++ (back ∷ rest))) = simp append_assoc in
         sym (append_assoc start (jump ∷ (((bod ++ post) ++ test) ++ (back ∷ []))) rest ∙ ap (λ l. start ++ (jump ∷ l)) inner)
 
-    number_follows : (o : Option ℕ) (body : Stmts) (runs : AllSound body) (kind : IntKind) (z : ℤ) (h : ℕ) → ((n : ℕ) → holds Less (int_cmp (pos n) z) ≡ nat_lt n h) → ((n : ℕ) → nat_lt n h ≡ true → wrapped kind (pos n +ℤ pos 1) ≡ pos (n + 1)) → (d t : ℕ) (ls : Locals) (at there b c : ℕ) (rest brk next : List (Instr ℕ)) (low : List Cell) (m : ℕ) (w : World) → at + d ≡ there → types_of ls ≡ types → total types + length low ≡ at → d + 2 + stmts_temps body ≤ m → Onward final (Then t rest brk next low m) (walk w.ticks 0 h o (exec_all calls body) ls w) → Goes_on t (range_code there o body (Arithmetic Add kind ∷ []) ++ rest) ls low m (Int z ∷ []) w
+    number_follows : (o : Option ℕ) (body : Stmts) (runs : AllSound body) (kind : IntKind) (z : ℤ) (h : ℕ) → ((n : ℕ) → holds Less (int_cmp (pos n) z) ≡ nat_lt n h) → ((n : ℕ) → nat_lt n h ≡ true → wrapped kind (pos n +ℤ pos 1) ≡ pos (n + 1)) → (d t : ℕ) (ls : Locals) (at there b c : ℕ) (rest brk next : List (Instr ℕ)) (low : List Cell) (m : ℕ) (w : ProgramState) → at + d ≡ there → types_of ls ≡ types → total types + length low ≡ at → d + 2 + stmts_temps body ≤ m → Onward final (Then t rest brk next low m) (walk (suc w.ticks) 0 h o (exec_all calls body) ls w) → Goes_on t (range_code there o body (Arithmetic Add kind ∷ []) ++ rest) ls low m (Int z ∷ []) w
     number_follows o body runs kind z h below up d t ls at there b c rest brk next low m w behind same long le on =
         let within : d + 2 ≤ m = omega (arith, le) in
         let ops : List Operator = Arithmetic Add kind ∷ [] in
@@ -250,7 +250,7 @@ module _ (image : Image) (final : Final) (depth : ℕ) (code : List (Instr ℕ))
         follows_as image final depth code callers starts p types t _ _ ls (low ++ more) (m - (d + 2)) (Int z ∷ []) w (loop_shape (begin_code there) _ _ bod (up_code there ops) (within_code there) rest)
         (follows_low image final depth code callers starts p types t _ ls _ (low ++ more) (m - (d + 2)) (Int z ∷ []) w (append_assoc low s.before (s.x ∷ s.y ∷ []) ∙ ap (λ l. low ++ l) (sym s.is))
         (begin_follows o body runs there b c rest brk next (low ++ s.before) (m - (d + 2)) place left kind z h below up t ls s.x s.y w same
-        (onward_map final _ _ (walk w.ticks 0 h o (exec_all calls body) ls w)
+        (onward_map final _ _ (walk (suc w.ticks) 0 h o (exec_all calls body) ls w)
         (λ flow w1 after x y.
         let two : length (s.before ++ x ∷ y ∷ []) ≡ d + 2 = omega (arith, s.long, length-append s.before (x ∷ y ∷ [])) in
         subst (λ l. Then t rest brk next l (m - (d + 2)) flow w1) (sym (append_assoc low s.before (x ∷ y ∷ [])))
@@ -258,7 +258,7 @@ module _ (image : Image) (final : Final) (depth : ℕ) (code : List (Instr ℕ))
         on))))
 
     -- the range is a number of its type
-    value_follows : (o : Option ℕ) (of : Type') (body : Stmts) (runs : AllSound body) (v : Value) → is_of of v ≡ true → (d t : ℕ) (ls : Locals) (at there b c : ℕ) (rest brk next : List (Instr ℕ)) (low : List Cell) (m : ℕ) (w : World) → at + d ≡ there → types_of ls ≡ types → total types + length low ≡ at → d + 2 + stmts_temps body ≤ m → Onward final (Then t rest brk next low m) (walk_to v (λ h. walk w.ticks 0 h o (exec_all calls body) ls w)) → Goes_on t (range_code there o body (binary_operators (underlying of) (arithmetic Add)) ++ rest) ls low m (flat v) w
+    value_follows : (o : Option ℕ) (of : Type') (body : Stmts) (runs : AllSound body) (v : Value) → is_of of v ≡ true → (d t : ℕ) (ls : Locals) (at there b c : ℕ) (rest brk next : List (Instr ℕ)) (low : List Cell) (m : ℕ) (w : ProgramState) → at + d ≡ there → types_of ls ≡ types → total types + length low ≡ at → d + 2 + stmts_temps body ≤ m → Onward final (Then t rest brk next low m) (walk_to v (λ h. walk (suc w.ticks) 0 h o (exec_all calls body) ls w)) → Goes_on t (range_code there o body (binary_operators (underlying of) (arithmetic Add)) ++ rest) ls low m (flat v) w
     value_follows o of body runs (single (Int (pos h))) typed d t ls at there b c rest brk next low m w behind same long le on =
         let i = integer_type of (pos h) typed in
         follows_as image final depth code callers starts p types t (range_code there o body (Arithmetic Add i.kind ∷ []) ++ rest) _ ls low m (Int (pos h) ∷ []) w (ap (λ s. range_code there o body (binary_operators s (arithmetic Add)) ++ rest) (sym i.is))
@@ -284,6 +284,6 @@ module _ (image : Image) (final : Final) (depth : ℕ) (code : List (Instr ℕ))
         (expr_follows image final depth code callers starts p types placed calls e first t locals at (behind ++ rest) low m [] w same long (omega (arith, le))
         (onward_map final _ _ (eval calls e locals w)
         (λ v w1 more typed.
-        let g = onward_given final _ of v w1 (onward_then final _ (given of (operators.Gives v) w1) _ more) in
+        let g = onward_given final _ of v w1 (onward_then final _ (typed_or_panic of (operators.Gives v) w1) _ more) in
         value_follows o of body runs v g.0 (expr_temps e) t locals at there b c rest brk next low m w1 refl same long le g.1)
         (onward_then final _ (eval calls e locals w) _ h)))

@@ -14,9 +14,9 @@ use Rattle.go_code.specs.declared.instr.JumpInstr.TheVariants.{JumpIf, JumpIfNot
 use Rattle.go_code.specs.declared.operator.Operator as operators
 use Rattle.go_code.specs.Referred.{Changes, refer}
 use Rattle.go_typed.specs.Trees as trees
-use Rattle.go_typed.specs.Trees.{Expr, Exprs, no_exprs, some_exprs, Perhaps, absent, present, Parts, no_parts, part, Steps, here, to_field, to_element, Left, blank, of_local, of_global, of_slice, Source, each, results, zeros, expr_type}
+use Rattle.go_typed.specs.Trees.{Expr, Exprs, no_exprs, some_exprs, Perhaps, absent, present, Parts, no_parts, part, Steps, here, to_field, to_element, Left, blank, of_local, of_global, of_slice, ValueSource, each, results, zeros, expr_type}
 use Rattle.go_meaning.specs.Choices.{unary_operators, binary_operators, conversion_operators, length_operators, cut_operators, field_type, element_type}
-use Rattle.go_gen.specs.Translation.{Places, offset, expr_temps, perhaps_temps, element_cells, zero_code, zeros_code, operators_code, index_code, load, store, decided_code, expr_code, perhaps_code, exprs_code, parts_code, source_code, operands_code, or_type, elements_count, steps_code, address_code, row_code, left_temps, left_operands, take_code, give_code, lefts_operands, values_temps, keep_code, keeps_code, gives_code, define_code, defines_code}
+use Rattle.go_gen.specs.Translation.{Places, offset, expr_temps, perhaps_temps, element_cells, zero_code, zeros_code, operators_code, index_code, load, store, decided_code, expr_code, perhaps_code, exprs_code, parts_code, source_code, operands_code, or_type, elements_count, steps_code, address_code, array_access_code, left_temps, left_operands, take_code, give_code, lefts_operands, values_temps, keep_code, keeps_code, gives_code, define_code, defines_code}
 
 -- the same places, where functions and package variables are referred to by other things
 abbrev pub referred : {R S : Type 0} → Changes R S → Places R → Places S
@@ -134,7 +134,7 @@ module _ {R S : Type 0} (g : Changes R S) where
       parts_referred s at k (part n e ps) =
           joins (refer g) (expr_code p k e) _ (expr_referred k e) (ap (λ l. store (at + offset s n) (cells (expr_type e)) ∷ l) (parts_referred s at (k + expr_temps e) ps))
 
-    pub source_referred : (k : ℕ) (s : Source) → Refers (source_code p k s) (source_code q k s)
+    pub source_referred : (k : ℕ) (s : ValueSource) → Refers (source_code p k s) (source_code q k s)
     source_referred k (each es) = exprs_referred k es
     source_referred k (results ts s es) = joins (refer g) (exprs_code p k es) _ (exprs_referred k es) refl
     source_referred k (zeros ts) = zeros_of_types ts
@@ -157,7 +157,7 @@ module _ {R S : Type 0} (g : Changes R S) where
     address_referred : (t : Type') (k : ℕ) (ss : Steps) → Refers (address_code t k ss) (address_code t k ss)
     address_referred t k ss = ap (λ l. In_frame (Push (Int (pos 0))) ∷ l) (steps_referred t k ss)
 
-    row_referred : (t : Type') (at k : ℕ) (ss : Steps) → Refers (row_code t at k ss) (row_code t at k ss)
+    row_referred : (t : Type') (at k : ℕ) (ss : Steps) → Refers (array_access_code t at k ss) (array_access_code t at k ss)
     row_referred t at k here = refl
     row_referred t at k (to_field n ss) = refl
     row_referred t at k (to_element e ss) =
@@ -175,14 +175,14 @@ module _ {R S : Type 0} (g : Changes R S) where
     take_referred k (of_local t v ss) n = joins (refer g) (address_code t k ss) _ (address_referred t k ss) refl
     take_referred k (of_global t s ss) n = joins (refer g) (address_code t k ss) _ (address_referred t k ss) refl
     take_referred k (of_slice t e ss) n =
-        joins (refer g) (row_code t (k + expr_temps e) (k + expr_temps e + 1) ss) _ (row_referred t (k + expr_temps e) (k + expr_temps e + 1) ss) refl
+        joins (refer g) (array_access_code t (k + expr_temps e) (k + expr_temps e + 1) ss) _ (row_referred t (k + expr_temps e) (k + expr_temps e + 1) ss) refl
 
     pub give_referred : (k : ℕ) (l : Left) (temp n : ℕ) → Refers (give_code p k l temp n) (give_code q k l temp n)
     give_referred k blank temp n = refl
     give_referred k (of_local t v ss) temp n = ap (λ l. load temp n ∷ l) (joins (refer g) (address_code t k ss) _ (address_referred t k ss) refl)
     give_referred k (of_global t s ss) temp n = ap (λ l. load temp n ∷ l) (joins (refer g) (address_code t k ss) _ (address_referred t k ss) refl)
     give_referred k (of_slice t e ss) temp n =
-        ap (λ l. load temp n ∷ l) (joins (refer g) (row_code t (k + expr_temps e) (k + expr_temps e + 1) ss) _ (row_referred t (k + expr_temps e) (k + expr_temps e + 1) ss) refl)
+        ap (λ l. load temp n ∷ l) (joins (refer g) (array_access_code t (k + expr_temps e) (k + expr_temps e + 1) ss) _ (row_referred t (k + expr_temps e) (k + expr_temps e + 1) ss) refl)
 
     pub lefts_referred : (k : ℕ) (ls : List Left) → Refers (lefts_operands p k ls) (lefts_operands q k ls)
     lefts_referred k [] = refl

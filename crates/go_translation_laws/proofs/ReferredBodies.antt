@@ -16,7 +16,7 @@ use Rattle.go_typed.specs.declared.expression.Operator.TheVariants.{Arithmetic a
 use Rattle.go_typed.specs.Trees as trees
 use Rattle.go_typed.specs.Trees.{Symbol, Expr, Exprs, no_exprs, some_exprs, Stmt, Stmts, no_stmts, some_stmts, Clauses, no_clauses, clause, results, expr_type}
 use Rattle.go_meaning.specs.Choices.{binary_operators}
-use Rattle.go_gen.specs.Translation.{Places, total, slots, expr_temps, source_counts, source_temps, left_temps, lefts_temps, operators_code, load, store, expr_code, source_code, lefts_operands, keeps_code, keep_code, left_operands, take_code, case_temps, cases_temps, condition_code, stmt_temps, stmts_temps, if_code, loop_code, begin_code, counted_code, count_code, within_code, cases_code, joined, case_code, tests_code, default_place, leave_code, stmt_code, stmts_code, bodies_code, body_code, local_types, translated}
+use Rattle.go_gen.specs.Translation.{Places, total, slots, expr_temps, source_counts, source_temps, left_temps, lefts_temps, operators_code, load, store, expr_code, source_code, lefts_operands, keeps_code, keep_code, left_operands, take_code, case_temps, cases_temps, condition_code, stmt_temps, stmts_temps, if_code, loop_code, begin_code, counted_code, count_code, within_code, cases_code, concat_code, case_code, tests_code, default_place, leave_code, stmt_code, stmts_code, bodies_code, body_code, local_types, translated}
 use Rattle.go_translation_laws.proofs.Referred.{referred, joins, as_long, Refers, begins, operators_referred, expr_referred, exprs_referred, source_referred, left_referred, take_referred, give_referred, lefts_referred, keep_referred, keeps_referred, gives_referred, defines_referred}
 
 -- ---- codes side by side
@@ -25,12 +25,12 @@ module _ {R S : Type 0} (g : Changes R S) where
   abbrev Changed : List (List (Instr R)) → List (List (Instr S)) → Type 0
   Changed xss uss = map (map (refer g)) xss ≡ uss
 
-  joined_all : (xss : List (List (Instr R))) → Refers g (joined xss) (joined (map (map (refer g)) xss))
+  joined_all : (xss : List (List (Instr R))) → Refers g (concat_code xss) (concat_code (map (map (refer g)) xss))
   joined_all [] = refl
-  joined_all (xs ∷ xss) = joins (refer g) xs (joined xss) refl (joined_all xss)
+  joined_all (xs ∷ xss) = joins (refer g) xs (concat_code xss) refl (joined_all xss)
 
-  joined_referred : (xss : List (List (Instr R))) (uss : List (List (Instr S))) → Changed xss uss → Refers g (joined xss) (joined uss)
-  joined_referred xss uss e = joined_all xss ∙ ap joined e
+  joined_referred : (xss : List (List (Instr R))) (uss : List (List (Instr S))) → Changed xss uss → Refers g (concat_code xss) (concat_code uss)
+  joined_referred xss uss e = joined_all xss ∙ ap concat_code e
 
   sizes_all : (xss : List (List (Instr R))) → map length xss ≡ map length (map (map (refer g)) xss)
   sizes_all [] = refl
@@ -116,11 +116,11 @@ module _ {R S : Type 0} (g : Changes R S) where
     sized_referred at first t cs codes codes' e =
         tests_referred at t first cs (map length codes) 0 ∙ ap (λ l. tests_code q at t first cs l 0) (sizes_same codes codes' e)
 
-    clauses_referred : (cs : Clauses) (codes : List (List (Instr R))) (codes' : List (List (Instr S))) → Changed codes codes' → Refers g (Go_to (Jump (default_place cs (map length codes) 0 (length (joined codes)))) ∷ joined codes) (Go_to (Jump (default_place cs (map length codes') 0 (length (joined codes')))) ∷ joined codes')
+    clauses_referred : (cs : Clauses) (codes : List (List (Instr R))) (codes' : List (List (Instr S))) → Changed codes codes' → Refers g (Go_to (Jump (default_place cs (map length codes) 0 (length (concat_code codes)))) ∷ concat_code codes) (Go_to (Jump (default_place cs (map length codes') 0 (length (concat_code codes')))) ∷ concat_code codes')
     clauses_referred cs codes codes' e =
         let all = joined_referred codes codes' e in
-        begins g (Go_to (Jump (default_place cs (map length codes) 0 (length (joined codes))))) (Go_to (Jump (default_place cs (map length codes') 0 (length (joined codes'))))) (joined codes)
-        (ap (λ l. Go_to (Jump (default_place cs l 0 (length (joined codes))))) (sizes_same codes codes' e) ∙ ap (λ n. Go_to (Jump (default_place cs (map length codes') 0 n))) (as_long (refer g) (joined codes) all))
+        begins g (Go_to (Jump (default_place cs (map length codes) 0 (length (concat_code codes))))) (Go_to (Jump (default_place cs (map length codes') 0 (length (concat_code codes'))))) (concat_code codes)
+        (ap (λ l. Go_to (Jump (default_place cs l 0 (length (concat_code codes))))) (sizes_same codes codes' e) ∙ ap (λ n. Go_to (Jump (default_place cs (map length codes') 0 n))) (as_long (refer g) (concat_code codes) all))
         all
 
     -- ---- statements
@@ -216,9 +216,9 @@ module _ {R S : Type 0} (g : Changes R S) where
           let rest : List (List (Instr R)) = bodies_code p (k + stmts_temps body) cs c in
           let rest' : List (List (Instr S)) = bodies_code q (k + stmts_temps body) cs c in
           let same : Changed rest rest' = bodies_referred (k + stmts_temps body) cs c in
-          let n : ℕ = length (joined rest) in
-          let n' : ℕ = length (joined rest') in
-          let far : n ≡ n' = as_long (refer g) (joined rest) (joined_referred rest rest' same) in
+          let n : ℕ = length (concat_code rest) in
+          let n' : ℕ = length (concat_code rest') in
+          let far : n ≡ n' = as_long (refer g) (concat_code rest) (joined_referred rest rest' same) in
           let leave : List (Instr R) = leave_code falls n in
           let leave' : List (Instr S) = leave_code falls n' in
           let leaves : Refers g leave leave' = leave_referred falls n ∙ ap (leave_code falls) far in

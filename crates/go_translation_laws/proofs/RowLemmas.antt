@@ -1,6 +1,6 @@
 -- How a row of cells stands for the elements of an array: what is read and put there, what is appended, and what is zero.
-use Rattle.std.proofs.Common.{◌≡◌, ℕ, zero, suc, ◌+◌, ◌*◌, ◌≤◌, Bool, true, false, ◌&&◌, nat_le, nat_eq, List, [], ◌∷◌, ◌++◌, length, map, take, drop, replicate, Option, Some, None, refl, sym, ap, ◌∙◌, subst, arith, length-append, append_assoc}
-use Rattle.std.specs.Prelude.{if◌then◌else◌, slice_get, slice_set}
+use Rattle.std.proofs.Common.{◌≡◌, ℕ, zero, suc, ◌+◌, ◌*◌, ◌≤◌, Bool, true, false, ◌&&◌, nat_le, nat_eq, List, [], ◌∷◌, ◌++◌, length, map, take, drop, replicate, Some, None, refl, sym, ap, ◌∙◌, subst, arith, length-append, append_assoc}
+use Rattle.std.specs.Prelude.{if◌then◌else◌, slice_set}
 use Rattle.std.specs.List.{flat_map, list_all, repeat}
 use Rattle.std.proofs.lemmas.Bool.{le-leb, eqb-true}
 use Rattle.std.proofs.lemmas.Grind.{flat_map-append}
@@ -10,12 +10,11 @@ use Rattle.go_types.specs.declared.types.Basic.{Basic}
 use Rattle.go_types.specs.declared.types.Basic.TheVariants as basics
 use Rattle.go_types.specs.declared.types.Untyped.TheVariants as kinds
 use Rattle.go_types.specs.Types.{Type', basic, array, slice, struct, named, Fields, no_fields, field}
-use Rattle.go_types.specs.Sizes.{cells}
 use Rattle.go_code.specs.declared.cell.Cell.{Cell}
 use Rattle.go_code.specs.declared.cell.Cell.TheVariants.{Int, Bool as Truth, Text, Slice}
 use Rattle.go_code.specs.Accesses.{cells_at, cells_with}
 use Rattle.go_code.specs.Rows.{row_of, zero_like}
-use Rattle.go_meaning.specs.Values.{Value, single, parts, Values, no_values, some_values, pack, unpack, flat, flat_all, is_of, are_of_fields, is_basic, zero_of, zeros_of, zero_cell}
+use Rattle.go_meaning.specs.Values.{Value, single, parts, Values, no_values, some_values, pack_values, unpack, flat, flat_all, is_of, are_of_fields, is_basic, zero_of, zeros_of, zero_cell}
 use Rattle.go_meaning.specs.Meaning.{overwritten}
 
 -- ---- rows of cells
@@ -226,17 +225,17 @@ zero_basic (basics.Untyped kinds.Int) c e = cc
 zero_basic (basics.Untyped kinds.Rune) c e = cc
 zero_basic (basics.Untyped kinds.String) c e = cc
 
-packed : (vs : Values) → pack (unpack vs) ≡ vs
+packed : (vs : Values) → pack_values (unpack vs) ≡ vs
 packed no_values = refl
 packed (some_values v vs) = ap (some_values v) (packed vs)
 
-copies_zero : (t : Type') (vs : List Value) (n : ℕ) → ((v : Value) → is_of t v ≡ true → map zero_like (flat v) ≡ flat (zero_of t)) → length vs ≡ n → list_all (is_of t) vs ≡ true → map zero_like (flat_all (pack vs)) ≡ flat_all (pack (replicate n (zero_of t)))
+copies_zero : (t : Type') (vs : List Value) (n : ℕ) → ((v : Value) → is_of t v ≡ true → map zero_like (flat v) ≡ flat (zero_of t)) → length vs ≡ n → list_all (is_of t) vs ≡ true → map zero_like (flat_all (pack_values vs)) ≡ flat_all (pack_values (replicate n (zero_of t)))
 copies_zero t [] zero one e all = refl
 copies_zero t [] (suc n) one e all = cc
 copies_zero t (v ∷ vs) zero one e all = cc
 copies_zero t (v ∷ vs) (suc n) one e all =
     let h = both_true (is_of t v) (list_all (is_of t) vs) all in
-    map-append zero_like (flat v) (flat_all (pack vs)) ∙ ap (λ l. l ++ map zero_like (flat_all (pack vs))) (one v h.0) ∙ ap (λ l. flat (zero_of t) ++ l) (copies_zero t vs n one (omega (arith, e)) h.1)
+    map-append zero_like (flat v) (flat_all (pack_values vs)) ∙ ap (λ l. l ++ map zero_like (flat_all (pack_values vs))) (one v h.0) ∙ ap (λ l. flat (zero_of t) ++ l) (copies_zero t vs n one (omega (arith, e)) h.1)
 
 mutual
   pub zero_cells : (t : Type') (v : Value) → is_of t v ≡ true → map zero_like (flat v) ≡ flat (zero_of t)
@@ -255,10 +254,10 @@ mutual
   zero_cells (struct fs) (parts vs) e = ap (λ l. map zero_like (flat_all l)) (sym (packed vs)) ∙ zero_fields fs (unpack vs) e
   zero_cells (named path name t) v e = zero_cells t v e
 
-  zero_fields : (fs : Fields) (vs : List Value) → are_of_fields fs vs ≡ true → map zero_like (flat_all (pack vs)) ≡ flat_all (zeros_of fs)
+  zero_fields : (fs : Fields) (vs : List Value) → are_of_fields fs vs ≡ true → map zero_like (flat_all (pack_values vs)) ≡ flat_all (zeros_of fs)
   zero_fields no_fields [] e = refl
   zero_fields no_fields (v ∷ vs) e = cc
   zero_fields (field p x t fs) [] e = cc
   zero_fields (field p x t fs) (v ∷ vs) e =
       let h = both_true (is_of t v) (are_of_fields fs vs) e in
-      map-append zero_like (flat v) (flat_all (pack vs)) ∙ ap (λ l. l ++ map zero_like (flat_all (pack vs))) (zero_cells t v h.0) ∙ ap (λ l. flat (zero_of t) ++ l) (zero_fields fs vs h.1)
+      map-append zero_like (flat v) (flat_all (pack_values vs)) ∙ ap (λ l. l ++ map zero_like (flat_all (pack_values vs))) (zero_cells t v h.0) ∙ ap (λ l. flat (zero_of t) ++ l) (zero_fields fs vs h.1)

@@ -1,7 +1,7 @@
 -- What the machine makes of its rows is what the sources make of their arrays.
-use Rattle.std.proofs.Common.{◌≡◌, ℕ, zero, suc, ◌+◌, ◌*◌, ◌-◌, ◌≤◌, Bool, true, false, ◌&&◌, nat_le, List, [], ◌∷◌, ◌++◌, length, map, take, drop, replicate, Option, Some, None, refl, sym, ap, ◌∙◌, subst, arith, length-append}
+use Rattle.std.proofs.Common.{◌≡◌, ℕ, zero, suc, ◌+◌, ◌*◌, ◌-◌, ◌≤◌, Bool, true, false, ◌&&◌, nat_le, List, [], ◌∷◌, ◌++◌, length, map, take, drop, replicate, refl, sym, ap, ◌∙◌, arith}
 use Rattle.std.specs.Prelude.{if◌then◌else◌, slice_set}
-use Rattle.std.specs.List.{flat_map, list_all, repeat}
+use Rattle.std.specs.List.{list_all, repeat}
 use Rattle.std.proofs.lemmas.Bool.{leb-true, le-leb}
 use Rattle.std.proofs.lemmas.Grind.{flat_map-append}
 use Rattle.std.proofs.Math.Seq.{take-append_seam}
@@ -17,15 +17,15 @@ use Rattle.go_code.specs.Operators as operators
 use Rattle.go_code.specs.Operators.{Operated}
 use Rattle.go_code.specs.Rows.{row_of, has_room, zero_like, grown, Rowed, row_step, if_there, if_given, new_row}
 use Rattle.go_meaning.specs.Values.{Value, single, flat, is_of, zero_of}
-use Rattle.go_meaning.specs.Meaning.{World, Outcome, Gives, Ends, Stuck, and_then, changed, appended, overwritten, with_array, new_array}
-use Rattle.go_translation_laws.proofs.RowLemmas.{row, rows, row_at, rows_set, rows_more, row_long, elements_read, elements_written, row_repeat, zero_cells}
+use Rattle.go_meaning.specs.Meaning.{ProgramState, Outcome, Gives, Ends, Stuck, and_then, or_panic, appended, overwritten, with_array, new_array}
+use Rattle.go_translation_laws.proofs.RowLemmas.{row, rows, row_at, rows_set, rows_more, elements_read, elements_written, row_repeat, zero_cells}
 
 -- the world with other arrays
-abbrev pub arrayed : World → List (List Value) → World
+abbrev pub arrayed : ProgramState → List (List Value) → ProgramState
 arrayed w arrays = record w { arrays = arrays }
 
 -- the machine comes to the rows and the cells of what the sources come to, or both panic
-abbrev pub Tells : Outcome Value → World → Operated Rowed → Type 0
+abbrev pub Tells : Outcome Value → ProgramState → Operated Rowed → Type 0
 Tells (Gives v w1) w o = (w1 ≡ arrayed w w1.arrays) × (o ≡ operators.Gives (record { rows = rows w1.arrays; cells = flat v }))
 Tells (Ends ending output) w o = (kind : PanicKind) × (ending ≡ Panicked kind) × (output ≡ w.output) × (o ≡ operators.Panics kind)
 Tells Stuck w o = Unit {0}
@@ -41,7 +41,7 @@ module _ (t : Type') (long : (v : Value) → is_of t v ≡ true → length (flat
       let h = both_true (is_of t v) (list_all (is_of t) vs) e in
       ap (λ n. map zero_like (take n (flat v ++ row vs))) (sym (long v h.0)) ∙ ap (map zero_like) (take-append_seam (flat v) (row vs)) ∙ zero_cells t v h.0
 
-  module _ (at start n c : ℕ) (vs : List Value) (w : World) where
+  module _ (at start n c : ℕ) (vs : List Value) (w : ProgramState) where
     abbrev all : List Value
     all = row_of w.arrays at
 
@@ -88,12 +88,12 @@ module _ (t : Type') (long : (v : Value) → is_of t v ≡ true → length (flat
     abbrev source : Bool → Outcome Value
     source b =
         if b then Gives (single (Slice at start count c)) (with_array w at (overwritten all (start + n) vs))
-        else and_then (changed (grown (cells t) count c) w) (λ room. new_array (larger room) count room)
+        else and_then (or_panic (grown (cells t) count c) w) (λ room. new_array (larger room) count room)
 
     pub append_tells : Tells (appended t (single (Slice at start n c)) vs w) w (row_step (Append (cells t) (length vs)) (rows w.arrays) (Slice at start n c ∷ row vs))
     append_tells = by_typed (list_all (is_of t) vs) refl
       where
-        by_growth : list_all (is_of t) vs ≡ true → list_all (is_of t) all ≡ true → (length vs ≡ zero → ⊥) → start + n ≤ length all → (o : Operated ℕ) → Tells (and_then (changed o w) (λ room. new_array (larger room) count room)) w (if_given o bigger)
+        by_growth : list_all (is_of t) vs ≡ true → list_all (is_of t) all ≡ true → (length vs ≡ zero → ⊥) → start + n ≤ length all → (o : Operated ℕ) → Tells (and_then (or_panic o w) (λ room. new_array (larger room) count room)) w (if_given o bigger)
         by_growth typed sound some within (operators.Gives room) = (refl, moved typed sound some within room)
         by_growth typed sound some within (operators.Panics kind) = (kind, refl, refl, refl)
         by_growth typed sound some within operators.Senseless = tt
@@ -106,7 +106,7 @@ module _ (t : Type') (long : (v : Value) → is_of t v ≡ true → length (flat
             not_both : (b : Bool) → b ≡ true → b ≡ false → ⊥
             not_both b e f = cc
 
-        by_array : list_all (is_of t) vs ≡ true → (b : Bool) → (list_all (is_of t) all && (nat_le n c && (nat_le (start + c) (length all) && has_room (cells t) (length all)))) ≡ b → Tells (and_then (if b then Gives all w else Stuck) (λ xs w1. if nat_le count c then Gives (single (Slice at start count c)) (with_array w1 at (overwritten xs (start + n) vs)) else and_then (changed (grown (cells t) count c) w1) (λ room. new_array (take n (drop start xs) ++ vs ++ replicate (room - count) (zero_of t)) count room))) w (machine (nat_le count c))
+        by_array : list_all (is_of t) vs ≡ true → (b : Bool) → (list_all (is_of t) all && (nat_le n c && (nat_le (start + c) (length all) && has_room (cells t) (length all)))) ≡ b → Tells (and_then (if b then Gives all w else Stuck) (λ xs w1. if nat_le count c then Gives (single (Slice at start count c)) (with_array w1 at (overwritten xs (start + n) vs)) else and_then (or_panic (grown (cells t) count c) w1) (λ room. new_array (take n (drop start xs) ++ vs ++ replicate (room - count) (zero_of t)) count room))) w (machine (nat_le count c))
         by_array typed true e =
             let h = both_true (list_all (is_of t) all) (nat_le n c && (nat_le (start + c) (length all) && has_room (cells t) (length all))) e in
             let g = both_true (nat_le n c) (nat_le (start + c) (length all) && has_room (cells t) (length all)) h.1 in
@@ -114,6 +114,6 @@ module _ (t : Type') (long : (v : Value) → is_of t v ≡ true → length (flat
             by_room typed h.0 (leb-true n c g.0) (leb-true (start + c) (length all) f.0) (nat_le count c) refl
         by_array typed false e = tt
 
-        by_typed : (b : Bool) → list_all (is_of t) vs ≡ b → Tells (if b then and_then (if list_all (is_of t) all && (nat_le n c && (nat_le (start + c) (length all) && has_room (cells t) (length all))) then Gives all w else Stuck) (λ xs w1. if nat_le count c then Gives (single (Slice at start count c)) (with_array w1 at (overwritten xs (start + n) vs)) else and_then (changed (grown (cells t) count c) w1) (λ room. new_array (take n (drop start xs) ++ vs ++ replicate (room - count) (zero_of t)) count room)) else Stuck) w (machine (nat_le count c))
+        by_typed : (b : Bool) → list_all (is_of t) vs ≡ b → Tells (if b then and_then (if list_all (is_of t) all && (nat_le n c && (nat_le (start + c) (length all) && has_room (cells t) (length all))) then Gives all w else Stuck) (λ xs w1. if nat_le count c then Gives (single (Slice at start count c)) (with_array w1 at (overwritten xs (start + n) vs)) else and_then (or_panic (grown (cells t) count c) w1) (λ room. new_array (take n (drop start xs) ++ vs ++ replicate (room - count) (zero_of t)) count room)) else Stuck) w (machine (nat_le count c))
         by_typed true e = by_array e (list_all (is_of t) all && (nat_le n c && (nat_le (start + c) (length all) && has_room (cells t) (length all)))) refl
         by_typed false e = tt

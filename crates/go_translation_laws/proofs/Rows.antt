@@ -12,21 +12,21 @@ use Rattle.go_code.specs.Machine.{Frame}
 use Rattle.go_code.proofs.Follows.{split_row}
 use Rattle.go_code.proofs.FollowsInside.{local_leads}
 use Rattle.go_code.proofs.Stands.{stands_next}
-use Rattle.go_meaning.specs.Meaning.{World}
+use Rattle.go_meaning.specs.Meaning.{ProgramState}
 use Rattle.go_gen.specs.Translation.{Places, load, store}
 use Rattle.go_translation_laws.proofs.Frames.{read_row, write_row}
 use Rattle.go_translation_laws.proofs.Runs.{here, On}
 use Rattle.go_translation_laws.proofs.Exprs.{deeper}
 
 module _ (image : Image) (final : Final) (depth : ℕ) (code : List (Instr ℕ)) (callers : List Frame) (starts : List Start) (p : Places ℕ) where
-  abbrev Onto : ℕ → List (Instr ℕ) → List Cell → ℕ → List Cell → World → Type 0
+  abbrev Onto : ℕ → List (Instr ℕ) → List Cell → ℕ → List Cell → ProgramState → Type 0
   Onto t k front m stack w = On image final depth code callers starts p t k front m stack w
 
-  pub on_front : (t : ℕ) (k : List (Instr ℕ)) (front other : List Cell) (m : ℕ) (stack : List Cell) (w : World) → front ≡ other → Onto t k front m stack w → Onto t k other m stack w
+  pub on_front : (t : ℕ) (k : List (Instr ℕ)) (front other : List Cell) (m : ℕ) (stack : List Cell) (w : ProgramState) → front ≡ other → Onto t k front m stack w → Onto t k other m stack w
   on_front t k front other m stack w e on = subst (λ f. Onto t k f m stack w) e on
 
   -- a row that lies in front comes on the stack
-  pub loads : (t first count : ℕ) (before row after : List Cell) (k : List (Instr ℕ)) (m : ℕ) (stack : List Cell) (w : World) → length before ≡ first → length row ≡ count → Onto t k (before ++ (row ++ after)) m (stack ++ row) w → Onto t (load first count ∷ k) (before ++ (row ++ after)) m stack w
+  pub loads : (t first count : ℕ) (before row after : List Cell) (k : List (Instr ℕ)) (m : ℕ) (stack : List Cell) (w : ProgramState) → length before ≡ first → length row ≡ count → Onto t k (before ++ (row ++ after)) m (stack ++ row) w → Onto t (load first count ∷ k) (before ++ (row ++ after)) m stack w
   loads t first count before row after k m stack w place size on known few at high long s =
       let all : List Cell = (before ++ (row ++ after)) ++ high in
       let shape : all ≡ before ++ (row ++ (after ++ high)) = append_assoc before (row ++ after) high ∙ ap (λ l. before ++ l) (append_assoc row after high) in
@@ -35,7 +35,7 @@ module _ (image : Image) (final : Final) (depth : ℕ) (code : List (Instr ℕ))
       (on known few (at + 1) high long (stands_next code at _ k s))
 
   -- a row on the stack is put in the place of one that lies in front
-  pub stores : (t first count : ℕ) (before old row after : List Cell) (k : List (Instr ℕ)) (m : ℕ) (stack : List Cell) (w : World) → length before ≡ first → length old ≡ count → length row ≡ count → Onto t k (before ++ (row ++ after)) m stack w → Onto t (store first count ∷ k) (before ++ (old ++ after)) m (stack ++ row) w
+  pub stores : (t first count : ℕ) (before old row after : List Cell) (k : List (Instr ℕ)) (m : ℕ) (stack : List Cell) (w : ProgramState) → length before ≡ first → length old ≡ count → length row ≡ count → Onto t k (before ++ (row ++ after)) m stack w → Onto t (store first count ∷ k) (before ++ (old ++ after)) m (stack ++ row) w
   stores t first count before old row after k m stack w place was size on known few at high long s =
       let all : List Cell = (before ++ (old ++ after)) ++ high in
       let new : List Cell = (before ++ (row ++ after)) ++ high in
@@ -47,7 +47,7 @@ module _ (image : Image) (final : Final) (depth : ℕ) (code : List (Instr ℕ))
       (on known few (at + 1) high long (stands_next code at _ k s))
 
   -- a row on the stack is put in the first of the temporaries
-  pub keeps : (t at count : ℕ) (row : List Cell) (k : List (Instr ℕ)) (front : List Cell) (m : ℕ) (stack : List Cell) (w : World) → length front ≡ at → length row ≡ count → count ≤ m → Onto t k (front ++ row) (m - count) stack w → Onto t (store at count ∷ k) front m (stack ++ row) w
+  pub keeps : (t at count : ℕ) (row : List Cell) (k : List (Instr ℕ)) (front : List Cell) (m : ℕ) (stack : List Cell) (w : ProgramState) → length front ≡ at → length row ≡ count → count ≤ m → Onto t k (front ++ row) (m - count) stack w → Onto t (store at count ∷ k) front m (stack ++ row) w
   keeps t at count row k front m stack w place size le on =
       deeper image final depth code callers starts p t (store at count ∷ k) front m count (stack ++ row) w le (λ low long.
       on_front t (store at count ∷ k) (front ++ (low ++ [])) (front ++ low) (m - count) (stack ++ row) w (ap (λ l. front ++ l) (append-nil low))

@@ -51,7 +51,7 @@ use Rattle.go_typed.specs.Trees.{Symbol}
 use Rattle.go_meaning.specs.Values.{Value, single, flat, is_of, or_else, if_gives}
 use Rattle.go_meaning.specs.Choices.{applied, operated}
 use Rattle.go_symbol.specs.Symbols.{same_symbol}
-use Rattle.go_meaning.specs.Meaning.{Stored, World, Outcome, Gives, Ends, Stuck, Local, Locals, and_then, given, changed, local_value, global_value}
+use Rattle.go_meaning.specs.Meaning.{Stored, ProgramState, Outcome, Gives, Ends, Stuck, Local, Locals, and_then, typed_or_panic, or_panic, local_value, global_value}
 use Rattle.go_gen.specs.Translation.{Places, slots, load, operators_code}
 use Rattle.go_translation_laws.proofs.Frames.{RowOf, Fits, lies, together, types_of, read_row}
 use Rattle.go_meaning_laws.proofs.Values.{flat_long}
@@ -61,23 +61,23 @@ use Rattle.go_translation_laws.proofs.RowLemmas.{rows as held_rows}
 -- ---- what the machine does behind an outcome
 
 -- an answer is gone on from; where the program ends this is the end
-abbrev pub Onward : {A : Type 0} → Final → (A → World → Type 0) → Outcome A → Type 0
+abbrev pub Onward : {A : Type 0} → Final → (A → ProgramState → Type 0) → Outcome A → Type 0
 Onward {A} final P (Gives a w) = P a w
 Onward {A} final P (Ends ending output) = final ≡ Ends_with ending output
 Onward {A} final P Stuck = ⊥
 
-pub onward_then : {A B : Type 0} (final : Final) (P : B → World → Type 0) (o : Outcome A) (next : A → World → Outcome B) → Onward final P (and_then o next) → Onward final (λ a w. Onward final P (next a w)) o
+pub onward_then : {A B : Type 0} (final : Final) (P : B → ProgramState → Type 0) (o : Outcome A) (next : A → ProgramState → Outcome B) → Onward final P (and_then o next) → Onward final (λ a w. Onward final P (next a w)) o
 onward_then final P (Gives a w) next h = h
 onward_then final P (Ends ending output) next h = h
 onward_then final P Stuck next h = h
 
-pub onward_map : {A : Type 0} (final : Final) (P Q : A → World → Type 0) (o : Outcome A) → ((a : A) (w : World) → P a w → Q a w) → Onward final P o → Onward final Q o
+pub onward_map : {A : Type 0} (final : Final) (P Q : A → ProgramState → Type 0) (o : Outcome A) → ((a : A) (w : ProgramState) → P a w → Q a w) → Onward final P o → Onward final Q o
 onward_map final P Q (Gives a w) f h = f a w h
 onward_map final P Q (Ends ending output) f h = h
 onward_map final P Q Stuck f h = h
 
 -- a value that is given is one of its type
-pub onward_given : (final : Final) (P : Value → World → Type 0) (t : Type') (v : Value) (w : World) → Onward final P (given t (operators.Gives v) w) → (is_of t v ≡ true) × P v w
+pub onward_given : (final : Final) (P : Value → ProgramState → Type 0) (t : Type') (v : Value) (w : ProgramState) → Onward final P (typed_or_panic t (operators.Gives v) w) → (is_of t v ≡ true) × P v w
 onward_given final P t v w h = by_test (is_of t v) refl h
   where
     by_test : (b : Bool) → is_of t v ≡ b → Onward final P (if b then Gives v w else Stuck) → (is_of t v ≡ true) × P v w
@@ -104,22 +104,22 @@ global_at (x ∷ xs) s = if same_symbol s x.symbol then 0 else cells x.of + glob
 
 module _ (image : Image) (final : Final) (depth : ℕ) (code : List (Instr ℕ)) (callers : List Frame) (starts : List Start) (p : Places ℕ) where
   -- the frame at a place, with its cells and a stack
-  abbrev pub here : ℕ → List Cell → List Cell → World → State
+  abbrev pub here : ℕ → List Cell → List Cell → ProgramState → State
   here place cells stack w = record { frames = record { depth = depth; code = code; place = place; cells = cells; stack = stack } ∷ callers; starts = starts; globals = held w.variables; rows = held_rows w.arrays; ticks = w.ticks; output = w.output }
 
   -- the package variables lie where the code looks for them
-  abbrev pub Known : World → Type 0
+  abbrev pub Known : ProgramState → Type 0
   Known w = Sized w.variables × ((s : Symbol) → p.globals s ≡ global_at w.variables s)
 
   -- wherever these instructions stand, and whatever the temporaries hold, the machine comes from there to the end
-  abbrev pub On : ℕ → List (Instr ℕ) → List Cell → ℕ → List Cell → World → Type 0
+  abbrev pub On : ℕ → List (Instr ℕ) → List Cell → ℕ → List Cell → ProgramState → Type 0
   On t k front m stack w =
       Known w → w.ticks ≤ t → (place : ℕ) (high : List Cell) → length high ≡ m → Stands code place k → Leads image (here place (front ++ high) stack w) final
 
-  pub on_as : (t : ℕ) (j k : List (Instr ℕ)) (front : List Cell) (m : ℕ) (stack : List Cell) (w : World) → j ≡ k → On t j front m stack w → On t k front m stack w
+  pub on_as : (t : ℕ) (j k : List (Instr ℕ)) (front : List Cell) (m : ℕ) (stack : List Cell) (w : ProgramState) → j ≡ k → On t j front m stack w → On t k front m stack w
   on_as t j k front m stack w e on known few place high long s = on known few place high long (stands_as code place k j (sym e) s)
 
-  pub on_stack : (t : ℕ) (k : List (Instr ℕ)) (front : List Cell) (m : ℕ) (stack other : List Cell) (w : World) → stack ≡ other → On t k front m stack w → On t k front m other w
+  pub on_stack : (t : ℕ) (k : List (Instr ℕ)) (front : List Cell) (m : ℕ) (stack other : List Cell) (w : ProgramState) → stack ≡ other → On t k front m stack w → On t k front m other w
   on_stack t k front m stack other w e on = subst (λ s. On t k front m s w) e on
 
   -- the local variables lie in front
@@ -132,7 +132,7 @@ module _ (image : Image) (final : Final) (depth : ℕ) (code : List (Instr ℕ))
 
   -- ---- a local variable
 
-  pub record LocalKnown (P : Value → World → Type 0) (locals : Locals) (t : Type') (n : ℕ) (w : World) : Type 0 where
+  pub record LocalKnown (P : Value → ProgramState → Type 0) (locals : Locals) (t : Type') (n : ℕ) (w : ProgramState) : Type 0 where
     pub l : Local
     pub v : Value
     pub found : slice_get locals n ≡ Some l
@@ -140,13 +140,13 @@ module _ (image : Image) (final : Final) (depth : ℕ) (code : List (Instr ℕ))
     pub typed : is_of t v ≡ true
     pub holds : P v w
 
-  local_valued : (P : Value → World → Type 0) (locals : Locals) (t : Type') (n : ℕ) (w : World) (l : Local) (o : Option Value) → slice_get locals n ≡ Some l → l.value ≡ o → Onward final P (given t (or_else operators.Senseless o) w) → LocalKnown P locals t n w
+  local_valued : (P : Value → ProgramState → Type 0) (locals : Locals) (t : Type') (n : ℕ) (w : ProgramState) (l : Local) (o : Option Value) → slice_get locals n ≡ Some l → l.value ≡ o → Onward final P (typed_or_panic t (or_else operators.Senseless o) w) → LocalKnown P locals t n w
   local_valued P locals t n w l None found e h = absurd h
   local_valued P locals t n w l (Some v) found e h =
       let g = onward_given final P t v w h in
       record { l = l; v = v; found = found; value = e; typed = g.0; holds = g.1 }
 
-  pub local_known : (P : Value → World → Type 0) (locals : Locals) (t : Type') (n : ℕ) (w : World) (o : Option Local) → slice_get locals n ≡ o → Onward final P (given t (or_else operators.Senseless (option_and_then (λ l. l.value) o)) w) → LocalKnown P locals t n w
+  pub local_known : (P : Value → ProgramState → Type 0) (locals : Locals) (t : Type') (n : ℕ) (w : ProgramState) (o : Option Local) → slice_get locals n ≡ o → Onward final P (typed_or_panic t (or_else operators.Senseless (option_and_then (λ l. l.value) o)) w) → LocalKnown P locals t n w
   local_known P locals t n w None e h = absurd h
   local_known P locals t n w (Some l) e h = local_valued P locals t n w l l.value e refl h
 
@@ -162,7 +162,7 @@ module _ (image : Image) (final : Final) (depth : ℕ) (code : List (Instr ℕ))
       ap (λ x. x ++ high) (sits.is ∙ ap (λ x. x ++ sits.low) at.is) ∙ shape in
       ap (λ x. cells_at x (p.locals n) (cells t)) all ∙ read_row at.before at.row ((at.after ++ sits.low) ++ high) (p.locals n) (cells t) place long ∙ ap Some row
 
-  pub local_runs : (t : ℕ) (of : Type') (n : ℕ) (locals : Locals) (k : List (Instr ℕ)) (front : List Cell) (m : ℕ) (stack : List Cell) (w : World) → Sits locals front → Onward final (λ v w1. is_of of v ≡ true → On t k front m (stack ++ flat v) w1) (given of (local_value locals n) w) → On t (load (p.locals n) (cells of) ∷ k) front m stack w
+  pub local_runs : (t : ℕ) (of : Type') (n : ℕ) (locals : Locals) (k : List (Instr ℕ)) (front : List Cell) (m : ℕ) (stack : List Cell) (w : ProgramState) → Sits locals front → Onward final (λ v w1. is_of of v ≡ true → On t k front m (stack ++ flat v) w1) (typed_or_panic of (local_value locals n) w) → On t (load (p.locals n) (cells of) ∷ k) front m stack w
   local_runs t of n locals k front m stack w sits h known few place high long s =
       let g = local_known (λ v w1. is_of of v ≡ true → On t k front m (stack ++ flat v) w1) locals of n w (slice_get locals n) refl h in
       local_leads image (here place (front ++ high) stack w) _ callers (Load (p.locals n) (cells of)) (record { cells = front ++ high; stack = stack ++ flat g.v }) final (record { frames = refl; rest = k; stands = s })
@@ -203,19 +203,19 @@ module _ (image : Image) (final : Final) (depth : ℕ) (code : List (Instr ℕ))
             place = long ∙ ap (λ b. if b then 0 else cells x.of + global_at xs s) (sym found);
           }
 
-  pub record GlobalKnown (P : Value → World → Type 0) (of : Type') (s : Symbol) (w : World) : Type 0 where
+  pub record GlobalKnown (P : Value → ProgramState → Type 0) (of : Type') (s : Symbol) (w : ProgramState) : Type 0 where
     pub v : Value
     pub found : option_map (λ x. x.value) (find (λ x. same_symbol s x.symbol) w.variables) ≡ Some v
     pub typed : is_of of v ≡ true
     pub holds : P v w
 
-  pub global_known : (P : Value → World → Type 0) (of : Type') (s : Symbol) (w : World) (o : Option Value) → option_map (λ x. x.value) (find (λ x. same_symbol s x.symbol) w.variables) ≡ o → Onward final P (given of (or_else operators.Senseless o) w) → GlobalKnown P of s w
+  pub global_known : (P : Value → ProgramState → Type 0) (of : Type') (s : Symbol) (w : ProgramState) (o : Option Value) → option_map (λ x. x.value) (find (λ x. same_symbol s x.symbol) w.variables) ≡ o → Onward final P (typed_or_panic of (or_else operators.Senseless o) w) → GlobalKnown P of s w
   global_known P of s w None e h = absurd h
   global_known P of s w (Some v) e h =
       let g = onward_given final P of v w h in
       record { v = v; found = e; typed = g.0; holds = g.1 }
 
-  pub global_runs : (t : ℕ) (of : Type') (s : Symbol) (k : List (Instr ℕ)) (front : List Cell) (m : ℕ) (stack : List Cell) (w : World) → Onward final (λ v w1. is_of of v ≡ true → On t k front m (stack ++ flat v) w1) (given of (global_value w.variables s) w) → On t (On_globals (Load (p.globals s) (cells of)) ∷ k) front m stack w
+  pub global_runs : (t : ℕ) (of : Type') (s : Symbol) (k : List (Instr ℕ)) (front : List Cell) (m : ℕ) (stack : List Cell) (w : ProgramState) → Onward final (λ v w1. is_of of v ≡ true → On t k front m (stack ++ flat v) w1) (typed_or_panic of (global_value w.variables s) w) → On t (On_globals (Load (p.globals s) (cells of)) ∷ k) front m stack w
   global_runs t of s k front m stack w h known few place high long st =
       let g = global_known (λ v w1. is_of of v ≡ true → On t k front m (stack ++ flat v) w1) of s w (option_map (λ x. x.value) (find (λ x. same_symbol s x.symbol) w.variables)) refl h in
       let at = global_lies w.variables s g.v known.0 g.found in
@@ -240,7 +240,7 @@ module _ (image : Image) (final : Final) (depth : ℕ) (code : List (Instr ℕ))
   applied_panics operator row true kind e is = record { long = same_number (length row) (operands operator) e; is = is }
   applied_panics operator row false kind e is = cc
 
-  operator_runs : (t : ℕ) (operator : on_cells.Operator) (ops : List on_cells.Operator) (row : List Cell) (o : Operated Cell) → applied operator row ≡ o → (k : List (Instr ℕ)) (front : List Cell) (m : ℕ) (stack : List Cell) (w : World) → ((c : Cell) → Onward final (λ v w1. On t k front m (stack ++ flat v) w1) (changed (operated ops (single c ∷ [])) w) → On t (operators_code ops ++ k) front m (stack ++ c ∷ []) w) → Onward final (λ v w1. On t k front m (stack ++ flat v) w1) (changed (if_gives o (λ c. operated ops (single c ∷ []))) w) → On t (Operate operator ∷ (operators_code ops ++ k)) front m (stack ++ row) w
+  operator_runs : (t : ℕ) (operator : on_cells.Operator) (ops : List on_cells.Operator) (row : List Cell) (o : Operated Cell) → applied operator row ≡ o → (k : List (Instr ℕ)) (front : List Cell) (m : ℕ) (stack : List Cell) (w : ProgramState) → ((c : Cell) → Onward final (λ v w1. On t k front m (stack ++ flat v) w1) (or_panic (operated ops (single c ∷ [])) w) → On t (operators_code ops ++ k) front m (stack ++ c ∷ []) w) → Onward final (λ v w1. On t k front m (stack ++ flat v) w1) (or_panic (if_gives o (λ c. operated ops (single c ∷ []))) w) → On t (Operate operator ∷ (operators_code ops ++ k)) front m (stack ++ row) w
   operator_runs t operator ops row (operators.Gives c) e k front m stack w next h known few place high long s =
       let a = applied_gives operator row (nat_eq (length row) (operands operator)) c refl e in
       operate_leads image (here place (front ++ high) (stack ++ row) w) _ callers operator stack row c final (record { frames = refl; rest = operators_code ops ++ k; stands = s }) (record { is = refl; long = a.long }) a.is
@@ -252,7 +252,7 @@ module _ (image : Image) (final : Final) (depth : ℕ) (code : List (Instr ℕ))
   operator_runs t operator ops row operators.Senseless e k front m stack w next h known few place high long s = absurd h
 
   -- whatever type the value has
-  pub operators_change : (t : ℕ) (ops : List on_cells.Operator) (vs : List Value) (k : List (Instr ℕ)) (front : List Cell) (m : ℕ) (stack : List Cell) (w : World) → Onward final (λ v w1. On t k front m (stack ++ flat v) w1) (changed (operated ops vs) w) → On t (operators_code ops ++ k) front m (stack ++ flat_map flat vs) w
+  pub operators_change : (t : ℕ) (ops : List on_cells.Operator) (vs : List Value) (k : List (Instr ℕ)) (front : List Cell) (m : ℕ) (stack : List Cell) (w : ProgramState) → Onward final (λ v w1. On t k front m (stack ++ flat v) w1) (or_panic (operated ops vs) w) → On t (operators_code ops ++ k) front m (stack ++ flat_map flat vs) w
   operators_change t [] [] k front m stack w h = absurd h
   operators_change t [] (v ∷ []) k front m stack w h = on_stack t k front m _ _ w (ap (λ l. stack ++ l) (sym (append-nil (flat v)))) h
   operators_change t [] (v ∷ u ∷ us) k front m stack w h = absurd h
@@ -260,11 +260,11 @@ module _ (image : Image) (final : Final) (depth : ℕ) (code : List (Instr ℕ))
       operator_runs t operator ops (flat_map flat vs) (applied operator (flat_map flat vs)) refl k front m stack w (λ c. operators_change t ops (single c ∷ []) k front m stack w) h
 
   -- what is known of a value of the type is known of what is given
-  changed_given : (P : Value → World → Type 0) (of : Type') (o : Operated Value) (w : World) → Onward final (λ v w1. is_of of v ≡ true → P v w1) (given of o w) → Onward final P (changed o w)
+  changed_given : (P : Value → ProgramState → Type 0) (of : Type') (o : Operated Value) (w : ProgramState) → Onward final (λ v w1. is_of of v ≡ true → P v w1) (typed_or_panic of o w) → Onward final P (or_panic o w)
   changed_given P of (operators.Gives v) w h = (let g = onward_given final (λ v w1. is_of of v ≡ true → P v w1) of v w h in g.1 g.0)
   changed_given P of (operators.Panics kind) w h = h
   changed_given P of operators.Senseless w h = absurd h
 
-  pub operators_run : (t : ℕ) (of : Type') (ops : List on_cells.Operator) (vs : List Value) (k : List (Instr ℕ)) (front : List Cell) (m : ℕ) (stack : List Cell) (w : World) → Onward final (λ v w1. is_of of v ≡ true → On t k front m (stack ++ flat v) w1) (given of (operated ops vs) w) → On t (operators_code ops ++ k) front m (stack ++ flat_map flat vs) w
+  pub operators_run : (t : ℕ) (of : Type') (ops : List on_cells.Operator) (vs : List Value) (k : List (Instr ℕ)) (front : List Cell) (m : ℕ) (stack : List Cell) (w : ProgramState) → Onward final (λ v w1. is_of of v ≡ true → On t k front m (stack ++ flat v) w1) (typed_or_panic of (operated ops vs) w) → On t (operators_code ops ++ k) front m (stack ++ flat_map flat vs) w
   operators_run t of ops vs k front m stack w h =
       operators_change t ops vs k front m stack w (changed_given (λ v w1. On t k front m (stack ++ flat v) w1) of (operated ops vs) w h)

@@ -9,9 +9,8 @@ use Rattle.go_code.specs.declared.image.Start.{Start}
 use Rattle.go_code.specs.declared.image.Start.TheVariants.{Setup as Set_up}
 use Rattle.go_code.specs.declared.instr.AccessInstr.TheVariants.{Store}
 use Rattle.go_code.specs.declared.instr.Instr.{Instr}
-use Rattle.go_code.specs.declared.instr.Instr.TheVariants.{Frame as In_frame, Global as On_globals, Calls as By_call}
+use Rattle.go_code.specs.declared.instr.Instr.TheVariants.{Global as On_globals, Calls as By_call}
 use Rattle.go_code.specs.declared.instr.CallInstr.TheVariants.{Return}
-use Rattle.go_code.specs.declared.instr.FrameInstr.TheVariants.{Pop}
 use Rattle.go_code.specs.Accesses.{cells_with, stored}
 use Rattle.go_code.specs.Referred.{Changes, refer, refer_setup}
 use Rattle.go_code.specs.Finals.{Final}
@@ -20,11 +19,11 @@ use Rattle.go_code.specs.Machine.{Frame, State, Leads, opened}
 use Rattle.go_code.proofs.Follows.{split_row, setup_leads}
 use Rattle.go_code.proofs.FollowsInside.{global_leads}
 use Rattle.go_code.proofs.Stands.{stands_next, stands_whole}
-use Rattle.go_typed.specs.Trees.{Symbol, Source, Function, Initialization, Package}
+use Rattle.go_typed.specs.Trees.{Symbol, ValueSource, Function, Initialization, Package}
 use Rattle.go_meaning.specs.Values.{Value, flat, is_of}
 use Rattle.go_symbol.specs.Symbols.{same_symbol}
-use Rattle.go_meaning.specs.Meaning.{Stored, World, Outcome, Gives, Calls, and_then, if_known, with_global, all_put, source}
-use Rattle.go_meaning.specs.Programs.{function_at, call_at}
+use Rattle.go_meaning.specs.Meaning.{Stored, ProgramState, Outcome, Gives, Calls, and_then, if_known, with_global, all_put, source}
+use Rattle.go_meaning.specs.Programs.{function_by_symbol, call_at}
 use Rattle.go_gen.specs.Translation.{Places, slots, source_counts, source_temps, source_code, set_code, sets_code, setup_code, no_locals, translated, translated_setup}
 use Rattle.go_translation_laws.proofs.Frames.{write_row}
 use Rattle.go_translation_laws.proofs.Runs.{Onward, onward_map, onward_then, here, Sits, held, On, on_as, on_stack}
@@ -61,11 +60,11 @@ had (x ∷ xs) s v changed e = by_symbol (λ ys. had xs s v ys) (same_symbol s x
     by_symbol others false is e = by_rest (with_global xs s v) refl others is e
 
 module _ (image : Image) (final : Final) (depth : ℕ) (code : List (Instr ℕ)) (callers : List Frame) (starts : List Start) (p : Places ℕ) where
-  abbrev Onto : ℕ → List (Instr ℕ) → List Cell → ℕ → List Cell → World → Type 0
+  abbrev Onto : ℕ → List (Instr ℕ) → List Cell → ℕ → List Cell → ProgramState → Type 0
   Onto t k front m stack w = On image final depth code callers starts p t k front m stack w
 
   -- a value goes from the stack into a package variable
-  pub global_stores : (t : ℕ) (s : Symbol) (v : Value) (changed : List Stored) (k : List (Instr ℕ)) (front : List Cell) (m : ℕ) (stack : List Cell) (w : World) → with_global w.variables s v ≡ Some changed → Onto t k front m stack (record w { variables = changed }) → Onto t (On_globals (Store (p.globals s) (length (flat v))) ∷ k) front m (stack ++ flat v) w
+  pub global_stores : (t : ℕ) (s : Symbol) (v : Value) (changed : List Stored) (k : List (Instr ℕ)) (front : List Cell) (m : ℕ) (stack : List Cell) (w : ProgramState) → with_global w.variables s v ≡ Some changed → Onto t k front m stack (record w { variables = changed }) → Onto t (On_globals (Store (p.globals s) (length (flat v))) ∷ k) front m (stack ++ flat v) w
   global_stores t s v changed k front m stack w e on known few place high size st =
       let h = had w.variables s v changed e in
       let g = global_put w.variables s h.value v changed known.0 h.is e in
@@ -78,11 +77,11 @@ module _ (image : Image) (final : Final) (depth : ℕ) (code : List (Instr ℕ))
       (on (g.sized, λ r. known.1 r ∙ sym (g.same r)) few (place + 1) high size (stands_next code place _ k st))
 
   -- what goes on with the package variables changed
-  abbrev Goes : ℕ → List (Instr ℕ) → List Cell → ℕ → List Cell → List Stored → World → Type 0
+  abbrev Goes : ℕ → List (Instr ℕ) → List Cell → ℕ → List Cell → List Stored → ProgramState → Type 0
   Goes t k front m stack variables w = Onto t k front m stack (record w { variables = variables })
 
   -- one of them, where those behind it have their values
-  set_follows : (path : List ℕ) (t : ℕ) (s : Option (List ℕ)) (ss : List (Option (List ℕ))) (v : Value) (vs : List Value) (k : List (Instr ℕ)) (front : List Cell) (m : ℕ) (stack : List Cell) (w : World) → Onward final (Goes t k front m stack) (if_known (all_set path (s ∷ ss) (v ∷ vs) w.variables) w) → Onward final (Goes t (set_code p path s (length (flat v)) ∷ k) front m (stack ++ flat v)) (if_known (all_set path ss vs w.variables) w)
+  set_follows : (path : List ℕ) (t : ℕ) (s : Option (List ℕ)) (ss : List (Option (List ℕ))) (v : Value) (vs : List Value) (k : List (Instr ℕ)) (front : List Cell) (m : ℕ) (stack : List Cell) (w : ProgramState) → Onward final (Goes t k front m stack) (if_known (all_set path (s ∷ ss) (v ∷ vs) w.variables) w) → Onward final (Goes t (set_code p path s (length (flat v)) ∷ k) front m (stack ++ flat v)) (if_known (all_set path ss vs w.variables) w)
   set_follows path t None ss v vs k front m stack w h =
       onward_map final _ _ (if_known (all_set path ss vs w.variables) w) (λ variables w1 on. pops image final depth code callers starts p [] t (length (flat v)) (flat v) k front m stack (record w1 { variables = variables }) refl on) h
   set_follows path t (Some x) ss v vs k front m stack w h = by_case (all_set path ss vs w.variables) h
@@ -99,7 +98,7 @@ module _ (image : Image) (final : Final) (depth : ℕ) (code : List (Instr ℕ))
       by_case (Some before) h = by_put before (with_global before s v) refl h
 
   -- package variables, from the last to the first
-  pub sets_follow : (path : List ℕ) (t : ℕ) (ss : List (Option (List ℕ))) (vs : List Value) (k : List (Instr ℕ)) (front : List Cell) (m : ℕ) (stack : List Cell) (w : World) → Onward final (Goes t k front m stack) (if_known (all_set path ss vs w.variables) w) → Onto t (sets_code p path ss (lengths vs) ++ k) front m (stack ++ flat_map flat vs) w
+  pub sets_follow : (path : List ℕ) (t : ℕ) (ss : List (Option (List ℕ))) (vs : List Value) (k : List (Instr ℕ)) (front : List Cell) (m : ℕ) (stack : List Cell) (w : ProgramState) → Onward final (Goes t k front m stack) (if_known (all_set path ss vs w.variables) w) → Onto t (sets_code p path ss (lengths vs) ++ k) front m (stack ++ flat_map flat vs) w
   sets_follow path t [] [] k front m stack w h = on_stack image final depth code callers starts p t k front m stack (stack ++ []) w (sym (append-nil stack)) h
   sets_follow path t [] (v ∷ vs) k front m stack w h = absurd h
   sets_follow path t (s ∷ ss) [] k front m stack w h = absurd h
@@ -112,16 +111,16 @@ module _ (image : Image) (final : Final) (depth : ℕ) (code : List (Instr ℕ))
 -- ---- a start step that sets variables
 
 -- what a start step that sets variables means
-abbrev pub variables_set : Calls → List ℕ → Source → List (Option (List ℕ)) → World → Outcome ⊤
+abbrev pub variables_set : Calls → List ℕ → ValueSource → List (Option (List ℕ)) → ProgramState → Outcome ⊤
 variables_set calls path s ss w = and_then (source calls s [] w) (λ vs w1. and_then (if_known (all_set path ss vs w1.variables) w1) (λ variables w2. Gives tt (record w2 { variables = variables })))
 
 module _ (image : Image) (final : Final) (starts : List Start) (packages : List Package) (globals functions : Symbol → ℕ) where
   -- between two start steps
-  abbrev over : World → State
+  abbrev over : ProgramState → State
   over w = record { frames = []; starts = starts; globals = held w.variables; rows = held_rows w.arrays; ticks = w.ticks; output = w.output }
 
   -- from the first instruction of a setup's frame
-  pub setup_follows : (calls : Calls) (path : List ℕ) (s : Source) (ss : List (Option (List ℕ))) → AllCalled image final 0 (setup_code (no_locals globals functions) path s ss) [] starts (no_locals globals functions) calls → (t : ℕ) (w : World) → Lies image final packages globals functions w → w.ticks ≤ t →
+  pub setup_follows : (calls : Calls) (path : List ℕ) (s : ValueSource) (ss : List (Option (List ℕ))) → AllCalled image final 0 (setup_code (no_locals globals functions) path s ss) [] starts (no_locals globals functions) calls → (t : ℕ) (w : ProgramState) → Lies image final packages globals functions w → w.ticks ≤ t →
       Onward final (λ done w1. Lies image final packages globals functions w1 → w1.ticks ≤ t → Leads image (over w1) final) (variables_set calls path s ss w) →
       Leads image (record { frames = opened 0 (setup_code (no_locals globals functions) path s ss) (source_temps s) [] ∷ []; starts = starts; globals = held w.variables; rows = held_rows w.arrays; ticks = w.ticks; output = w.output }) final
   setup_follows calls path s ss called t w known few h =
@@ -129,7 +128,7 @@ module _ (image : Image) (final : Final) (starts : List Start) (packages : List 
       let code : List (Instr ℕ) = setup_code p path s ss in
       let temps : ℕ = source_temps s in
       let return : List (Instr ℕ) = By_call (Return 0) ∷ [] in
-      let returns : (w1 : World) → (Lies image final packages globals functions w1 → w1.ticks ≤ t → Leads image (over w1) final) → On image final 0 code [] starts p t return [] temps [] w1 =
+      let returns : (w1 : ProgramState) → (Lies image final packages globals functions w1 → w1.ticks ≤ t → Leads image (over w1) final) → On image final 0 code [] starts p t return [] temps [] w1 =
       λ w1 on known1 few1 place high long st. gives_back image (here image final 0 code [] starts p place high [] w1) _ [] [] 0 [] final refl st refl refl (on known1 few1) in
       let sits : Sits image final 0 code [] starts p [] [] = record { rows = []; low = []; is = refl; fits = tt; placed = λ n. refl } in
       let runs : On image final 0 code [] starts p t code [] temps [] w =
@@ -146,7 +145,7 @@ module _ (image : Image) (final : Final) (starts : List Start) (packages : List 
       (runs known few 0 (replicate temps nought) (replicate_long temps nought) (stands_whole code))
 
   -- from the start step, where the image has each function's code by its number; a setup is no open call
-  pub sets_lead : ((f : Symbol) (g : Function) → function_at packages f ≡ Some g → slice_get image.functions (functions f) ≡ Some (translated globals functions g)) → BodiesRun image final starts packages globals functions → (left : ℕ) → left ≡ most_open image.edition → (path : List ℕ) (s : Source) (ss : List (Option (List ℕ))) (t : ℕ) (w : World) → Lies image final packages globals functions w → w.ticks ≤ t →
+  pub sets_lead : ((f : Symbol) (g : Function) → function_by_symbol packages f ≡ Some g → slice_get image.functions (functions f) ≡ Some (translated globals functions g)) → BodiesRun image final starts packages globals functions → (left : ℕ) → left ≡ most_open image.edition → (path : List ℕ) (s : ValueSource) (ss : List (Option (List ℕ))) (t : ℕ) (w : ProgramState) → Lies image final packages globals functions w → w.ticks ≤ t →
       Onward final (λ done w1. Lies image final packages globals functions w1 → w1.ticks ≤ t → Leads image (over w1) final) (variables_set (call_at packages left) path s ss w) →
       Leads image (record { frames = []; starts = Set_up (record { cells = source_temps s; code = setup_code (no_locals globals functions) path s ss }) ∷ starts; globals = held w.variables; rows = held_rows w.arrays; ticks = w.ticks; output = w.output }) final
   sets_lead found bodies left same path s ss t w known few h =
@@ -168,7 +167,7 @@ module _ {R S : Type 0} (g : Changes R S) (p : Places R) (path : List ℕ) where
   sets_referred (o ∷ os) [] = refl
   sets_referred (o ∷ os) (n ∷ counts) = joins (refer g) (sets_code p path os counts) _ (sets_referred os counts) (ap (λ i. i ∷ []) (set_referred o n))
 
-  code_referred : (s : Source) (os : List (Option (List ℕ))) → Refers g (setup_code p path s os) (setup_code (referred g p) path s os)
+  code_referred : (s : ValueSource) (os : List (Option (List ℕ))) → Refers g (setup_code p path s os) (setup_code (referred g p) path s os)
   code_referred s os =
       joins (refer g) (source_code p 0 s) _ (source_referred g p 0 s)
       (joins (refer g) (sets_code p path os (source_counts s)) _ (sets_referred os (source_counts s)) refl)

@@ -16,13 +16,13 @@ use Rattle.go_types.specs.Types.{Type', basic, array, slice, struct, named, Fiel
 use Rattle.go_types.specs.Relations.{underlying}
 use Rattle.go_types.specs.Sizes.{cells}
 use Rattle.go_code.specs.declared.cell.Cell.{Cell}
-use Rattle.go_code.specs.declared.cell.Cell.TheVariants.{Int, Bool as Truth, Text}
+use Rattle.go_code.specs.declared.cell.Cell.TheVariants.{Int, Text}
 use Rattle.go_code.specs.Lines.{cell_fits, number_fits}
 use Rattle.std.proofs.Math.Seq.{take-append_seam, drop-append_seam}
 use Rattle.go_code.specs.declared.ending.PanicKind.TheVariants.{Index as Out_of_range}
 use Rattle.go_code.specs.declared.instr.PartInstr.TheVariants.{Pick, Part}
 use Rattle.go_code.specs.Operators as operators
-use Rattle.go_code.specs.Parts.{part, picked, with_index, index_below}
+use Rattle.go_code.specs.Parts.{part, picked, bind_index, index_below}
 use Rattle.go_translation_laws.proofs.Frames.{if_true}
 use Rattle.go_meaning.specs.Choices.{cell_of, element_type}
 use Rattle.go_meaning.specs.Values.{Value, single, parts, Values, no_values, some_values, unpack, flat, flat_all, is_of, is_basic, are_of_fields, nth, with_nth}
@@ -167,7 +167,7 @@ part_reads whole first count before row after w p c =
     ∙ ap (λ n. operators.Gives (take n (row ++ after))) (sym c)
     ∙ ap operators.Gives (take-append_seam row after)
 
-pub picks : (count size : ℕ) (row : List Cell) (z : ℤ) → length row ≡ count * size → part (Pick count size) (row ++ Int z ∷ []) ≡ with_index (index_below count (Int z)) (λ index. operators.Gives (take size (drop (index * size) row)))
+pub picks : (count size : ℕ) (row : List Cell) (z : ℤ) → length row ≡ count * size → part (Pick count size) (row ++ Int z ∷ []) ≡ bind_index (index_below count (Int z)) (λ index. operators.Gives (take size (drop (index * size) row)))
 picks count size row z long =
     let all : List Cell = row ++ Int z ∷ [] in
     ap (λ n. picked count size (take n all) (drop n all)) (sym long)
@@ -196,7 +196,7 @@ element_picked count t vs n x typed e =
     let within : n < count = omega (arith, nth_within vs n x e, same_number (length (unpack vs)) count h.0) in
     let at = element_among t vs n x h.1 e in
     picks count (cells t) (flat_all vs) (pos n) (flat_long (array count t) (parts vs) typed)
-    ∙ ap (λ o. with_index o (λ index. operators.Gives (take (cells t) (drop (index * cells t) (flat_all vs))))) (if_true (nat_lt n count) (operators.Gives n) (operators.Panics Out_of_range) (le-leb (suc n) count (omega (arith, within))))
+    ∙ ap (λ o. bind_index o (λ index. operators.Gives (take (cells t) (drop (index * cells t) (flat_all vs))))) (if_true (nat_lt n count) (operators.Gives n) (operators.Panics Out_of_range) (le-leb (suc n) count (omega (arith, within))))
     ∙ ap (λ l. operators.Gives (take (cells t) (drop (n * cells t) l))) at.is
     ∙ ap (λ m. operators.Gives (take (cells t) (drop m (at.before ++ (flat x ++ at.after))))) (sym at.place)
     ∙ ap (λ l. operators.Gives (take (cells t) l)) (drop-append_seam at.before (flat x ++ at.after))
@@ -209,7 +209,7 @@ element_missed count t vs n typed e =
     let beyond : count ≤ n = omega (arith, nth_beyond vs n e, same_number (length (unpack vs)) count h.0) in
     let test : nat_lt n count ≡ false = lt-leb (suc n) count (omega (arith, beyond)) in
     picks count (cells t) (flat_all vs) (pos n) (flat_long (array count t) (parts vs) typed)
-    ∙ ap (λ b. with_index (if b then operators.Gives n else operators.Panics Out_of_range) (λ index. operators.Gives (take (cells t) (drop (index * cells t) (flat_all vs))))) test
+    ∙ ap (λ b. bind_index (if b then operators.Gives n else operators.Panics Out_of_range) (λ index. operators.Gives (take (cells t) (drop (index * cells t) (flat_all vs))))) test
 
 pub element_below : (count : ℕ) (t : Type') (vs : Values) (n : ℕ) → is_of (array count t) (parts vs) ≡ true → part (Pick count (cells t)) (flat_all vs ++ Int (negsuc n) ∷ []) ≡ operators.Panics Out_of_range
 element_below count t vs n typed = picks count (cells t) (flat_all vs) (negsuc n) (flat_long (array count t) (parts vs) typed)

@@ -18,9 +18,9 @@ use Rattle.go_code.specs.Machine.{Frame, State, Leads, with_frames}
 use Rattle.go_code.proofs.Follows.{print_leads, return_leads, return_over}
 use Rattle.go_code.proofs.Stands.{Stands, stands_next}
 use Rattle.go_typed.specs.Trees as trees
-use Rattle.go_typed.specs.Trees.{Symbol, Exprs, Source, Stmt}
+use Rattle.go_typed.specs.Trees.{Symbol, Exprs, ValueSource, Stmt}
 use Rattle.go_meaning.specs.Values.{Value, flat}
-use Rattle.go_meaning.specs.Meaning.{World, Locals, Calls, if_known, defined, eval_all, source}
+use Rattle.go_meaning.specs.Meaning.{ProgramState, Locals, Calls, if_known, defined, eval_all, source}
 use Rattle.go_gen.specs.Translation.{Places, total, expr_counts, exprs_code, source_temps, source_counts, source_code, defines_code}
 use Rattle.go_translation_laws.proofs.Frames.{together, types_of}
 use Rattle.go_translation_laws.proofs.Runs.{Onward, onward_then, onward_map, here}
@@ -40,11 +40,11 @@ gives_back image s f [] row n rest final frames stands stack long l = return_ove
 gives_back image s f (caller ∷ callers) row n rest final frames stands stack long l = return_leads image s f caller callers [] row n rest final frames stands stack long l
 
 module _ (image : Image) (final : Final) (depth : ℕ) (code : List (Instr ℕ)) (callers : List Frame) (starts : List Start) (p : Places ℕ) (types : List Type') where
-  abbrev Goes_on : ℕ → List (Instr ℕ) → Locals → List Cell → ℕ → List Cell → World → Type 0
+  abbrev Goes_on : ℕ → List (Instr ℕ) → Locals → List Cell → ℕ → List Cell → ProgramState → Type 0
   Goes_on t k locals low m stack w = Follows image final depth code callers starts p types t k locals low m stack w
 
   -- the newest frame returns these values
-  pub returns_back : (t n : ℕ) (vs : List Value) (k : List (Instr ℕ)) (locals : Locals) (low : List Cell) (m : ℕ) (w : World) → length (flat_map flat vs) ≡ n → Back image final depth code callers starts p types t vs w → Goes_on t (By_call (Return n) ∷ k) locals low m (flat_map flat vs) w
+  pub returns_back : (t n : ℕ) (vs : List Value) (k : List (Instr ℕ)) (locals : Locals) (low : List Cell) (m : ℕ) (w : ProgramState) → length (flat_map flat vs) ≡ n → Back image final depth code callers starts p types t vs w → Goes_on t (By_call (Return n) ∷ k) locals low m (flat_map flat vs) w
   returns_back t n vs k locals low m w size back rows fits known few place high long s =
       gives_back image (here image final depth code callers starts p place ((together rows ++ low) ++ high) (flat_map flat vs) w) _ callers (flat_map flat vs) n k final refl s refl size (back known few)
 
@@ -52,11 +52,11 @@ module _ (image : Image) (final : Final) (depth : ℕ) (code : List (Instr ℕ))
     abbrev Sound : Stmt → Type 0
     Sound s = StmtRuns image final depth code callers starts p types calls s
 
-    abbrev Sourced : Source → Type 0
+    abbrev Sourced : ValueSource → Type 0
     Sourced s = SourceRuns image final depth code callers starts p calls s
 
     -- values that are due in a statement
-    pub source_follows : (s : Source) → Sourced s → (t : ℕ) (locals : Locals) (at : ℕ) (k : List (Instr ℕ)) (low : List Cell) (m : ℕ) (stack : List Cell) (w : World) → types_of locals ≡ types → total types + length low ≡ at → source_temps s ≤ m → Onward final (λ vs w1. lengths vs ≡ source_counts s → Goes_on t k locals low m (stack ++ flat_map flat vs) w1) (source calls s locals w) → Goes_on t (source_code p at s ++ k) locals low m stack w
+    pub source_follows : (s : ValueSource) → Sourced s → (t : ℕ) (locals : Locals) (at : ℕ) (k : List (Instr ℕ)) (low : List Cell) (m : ℕ) (stack : List Cell) (w : ProgramState) → types_of locals ≡ types → total types + length low ≡ at → source_temps s ≤ m → Onward final (λ vs w1. lengths vs ≡ source_counts s → Goes_on t k locals low m (stack ++ flat_map flat vs) w1) (source calls s locals w) → Goes_on t (source_code p at s ++ k) locals low m stack w
     source_follows s runs t locals at k low m stack w same long le h rows fits =
         runs t locals at k (together rows ++ low) m stack w (row_long image final depth code callers starts p types rows locals low at fits same long) le (sits_in image final depth code callers starts p types rows locals low placed fits same)
         (onward_map final _ _ (source calls s locals w) (λ vs w1 more counts. more counts rows fits) h)
@@ -75,7 +75,7 @@ module _ (image : Image) (final : Final) (depth : ℕ) (code : List (Instr ℕ))
     -- https://go.dev/ref/spec#Expression_statements
     pub run_runs : (ts : List Type') (f : Symbol) (es : Exprs) → Sourced (trees.results ts f es) → Sound (trees.run ts f es)
     run_runs ts f es runs t locals at b c rest brk next low m w same long le ends turns h =
-        let s : Source = trees.results ts f es in
+        let s : ValueSource = trees.results ts f es in
         let n : ℕ = sum (map cells ts) in
         follows_as image final depth code callers starts p types t (source_code p at s ++ (In_frame (Pop n) ∷ rest)) _ locals low m [] w (sym (append_assoc (source_code p at s) (In_frame (Pop n) ∷ []) rest))
         (source_follows s runs t locals at (In_frame (Pop n) ∷ rest) low m [] w same long le
@@ -85,7 +85,7 @@ module _ (image : Image) (final : Final) (depth : ℕ) (code : List (Instr ℕ))
         (onward_then final _ (source calls s locals w) _ h)))
 
     -- https://go.dev/ref/spec#Return_statements
-    pub return_runs : (s : Source) → Sourced s → Sound (trees.return s)
+    pub return_runs : (s : ValueSource) → Sourced s → Sound (trees.return s)
     return_runs s runs t locals at b c rest brk next low m w same long le ends turns h =
         let n : ℕ = sum (source_counts s) in
         follows_as image final depth code callers starts p types t (source_code p at s ++ (By_call (Return n) ∷ rest)) _ locals low m [] w (sym (append_assoc (source_code p at s) (By_call (Return n) ∷ []) rest))
@@ -95,7 +95,7 @@ module _ (image : Image) (final : Final) (depth : ℕ) (code : List (Instr ℕ))
         (onward_then final _ (source calls s locals w) _ h)))
 
     -- https://go.dev/ref/spec#Variable_declarations
-    pub define_runs : (ns : List _) (s : Source) → Sourced s → Sound (trees.define ns s)
+    pub define_runs : (ns : List _) (s : ValueSource) → Sourced s → Sound (trees.define ns s)
     define_runs ns s runs t locals at b c rest brk next low m w same long le ends turns h =
         follows_as image final depth code callers starts p types t (source_code p at s ++ (defines_code p ns (source_counts s) ++ rest)) _ locals low m [] w (sym (append_assoc (source_code p at s) (defines_code p ns (source_counts s)) rest))
         (source_follows s runs t locals at (defines_code p ns (source_counts s) ++ rest) low m [] w same long le

@@ -7,7 +7,7 @@ use Rattle.go_code.specs.Finals.{Final}
 use Rattle.go_code.specs.Images.{Image}
 use Rattle.go_code.specs.Machine.{Frame}
 use Rattle.go_typed.specs.Trees as trees
-use Rattle.go_typed.specs.Trees.{Symbol, Expr, Source, Stmt, Stmts, no_stmts, some_stmts, Clauses, no_clauses, clause, Package}
+use Rattle.go_typed.specs.Trees.{Symbol, Expr, ValueSource, Stmt, Stmts, no_stmts, some_stmts, Clauses, no_clauses, clause, Package}
 use Rattle.go_meaning.specs.Meaning.{Calls}
 use Rattle.go_gen.specs.Translation.{Places}
 use Rattle.go_translation_laws.proofs.Exprs.{Runs}
@@ -25,7 +25,7 @@ module _ (image : Image) (final : Final) (depth : ℕ) (code : List (Instr ℕ))
   every : (e : Expr) → Runs image final depth code callers starts p calls e
   every e = expr_runs image final depth code callers starts p calls called e
 
-  each : (s : Source) → SourceRuns image final depth code callers starts p calls s
+  each : (s : ValueSource) → SourceRuns image final depth code callers starts p calls s
   each s = source_runs image final depth code callers starts p calls called s
 
   tests_run : (o : Option Expr) → TestRuns image final depth code callers starts p types placed calls o

@@ -13,7 +13,7 @@ use Rattle.go_code.specs.declared.ending.PanicKind.TheVariants.{Index as Out_of_
 use Rattle.go_code.specs.declared.instr.PartInstr.TheVariants.{Move, Index}
 use Rattle.go_code.specs.Operators as operators
 use Rattle.go_code.specs.Operators.{Operated}
-use Rattle.go_code.specs.Parts.{part, with_index, offset_of}
+use Rattle.go_code.specs.Parts.{part, bind_index, offset_of}
 use Rattle.go_meaning.specs.Values.{Value, single, parts, Values, no_values, some_values, unpack, flat, is_of, are_of_fields, Step, to_field, to_element, nth, part_of, with_part, read, updated, or_else, if_gives}
 use Rattle.go_meaning.specs.Choices.{field_at}
 use Rattle.go_code.specs.Rows.{most_room}
@@ -116,13 +116,13 @@ element_found count u vs n base (Some x) e typed small =
     record {
       at = n * cells u;
       parted = at;
-      got_is = ap (λ b. with_index (if b then operators.Gives n else operators.Panics Out_of_range) (λ index. offset_of (pos (base + index * cells u)))) test ∙ offset_gives (base + n * cells u) within;
+      got_is = ap (λ b. bind_index (if b then operators.Gives n else operators.Panics Out_of_range) (λ index. offset_of (pos (base + index * cells u)))) test ∙ offset_gives (base + n * cells u) within;
     }
 element_found count u vs n base None e typed small =
     let many = same_number (length (unpack vs)) count (both_true _ (list_all (is_of u) (unpack vs)) typed).0 in
     let beyond : count < suc n = omega (arith, nth_beyond vs n e, many) in
     let test : nat_lt n count ≡ false = lt-leb (suc n) count beyond in
-    ap (λ b. with_index (if b then operators.Gives n else operators.Panics Out_of_range) (λ index. offset_of (pos (base + index * cells u)))) test
+    ap (λ b. bind_index (if b then operators.Gives n else operators.Panics Out_of_range) (λ index. offset_of (pos (base + index * cells u)))) test
 
 pub element_finds : (count : ℕ) (u : Type') (v : Value) (z : ℤ) (base : ℕ) → is_of (array count u) v ≡ true → base + cells (array count u) ≤ most_room → (o : Operated Value) → part_of v (to_element z) ≡ o → Finds v (to_element z) u base (part (Index count (cells u)) (Int (pos base) ∷ Int z ∷ [])) o
 element_finds count u (single c) z base typed small o e = cc

@@ -23,8 +23,8 @@ use Rattle.go_typed.specs.declared.expression.Operator.TheVariants.{Comparison a
 use Rattle.go_typed.specs.Trees.{Expr, Exprs, no_exprs, some_exprs, Clauses, no_clauses, clause}
 use Rattle.go_meaning.specs.Values.{Value, single, parts, flat, is_of}
 use Rattle.go_meaning.specs.Choices.{operated, binary_operators}
-use Rattle.go_meaning.specs.Meaning.{World, Outcome, Gives, Locals, Calls, and_then, given, changed, if_true, eval, is_case, chosen}
-use Rattle.go_gen.specs.Translation.{Places, total, expr_temps, exprs_temps, operators_code, load, expr_code, cases_temps, cases_code, joined, tests_code, default_place}
+use Rattle.go_meaning.specs.Meaning.{ProgramState, Outcome, Gives, Locals, Calls, and_then, typed_or_panic, or_panic, if_true, eval, is_case, chosen}
+use Rattle.go_gen.specs.Translation.{Places, total, expr_temps, exprs_temps, operators_code, load, expr_code, cases_temps, cases_code, concat_code, tests_code, default_place}
 use Rattle.go_translation_laws.proofs.Frames.{together, types_of}
 use Rattle.go_meaning_laws.proofs.Values.{flat_long}
 use Rattle.go_translation_laws.proofs.Runs.{Onward, onward_then, onward_map, here, On, on_stack, operators_run}
@@ -55,7 +55,7 @@ next_codes {A} (suc n) x xs (y ∷ ys) e =
 -- the codes from the chosen clause on, or what stands behind all
 abbrev pub from_clause_on : List (List (Instr ℕ)) → List (Instr ℕ) → Option ℕ → List (Instr ℕ)
 from_clause_on codes rest None = rest
-from_clause_on codes rest (Some n) = joined (drop n codes) ++ rest
+from_clause_on codes rest (Some n) = concat_code (drop n codes) ++ rest
 
 -- as many codes as clauses
 abbrev pub AsMany : Clauses → List (List (Instr ℕ)) → Type 0
@@ -67,7 +67,7 @@ AsMany (clause es body falls cs) (x ∷ xs) = AsMany cs xs
 -- ---- comparisons
 
 -- a comparison decides only by a truth value
-as_truth : {A : Type 0} (final : Final) (P : A → World → Type 0) (o : Operated Value) (w : World) (x y : World → Outcome A) → Onward final P (and_then (changed o w) (λ b w1. if_true b (x w1) (y w1))) → Onward final (λ v w1. Onward final P (if_true v (x w1) (y w1))) (given (basic basics.Bool) o w)
+as_truth : {A : Type 0} (final : Final) (P : A → ProgramState → Type 0) (o : Operated Value) (w : ProgramState) (x y : ProgramState → Outcome A) → Onward final P (and_then (or_panic o w) (λ b w1. if_true b (x w1) (y w1))) → Onward final (λ v w1. Onward final P (if_true v (x w1) (y w1))) (typed_or_panic (basic basics.Bool) o w)
 as_truth {A} final P (operators.Gives (single (Truth true))) w x y h = h
 as_truth {A} final P (operators.Gives (single (Truth false))) w x y h = h
 as_truth {A} final P (operators.Gives (single (Int z))) w x y h = absurd h
@@ -78,14 +78,14 @@ as_truth {A} final P (operators.Panics kind) w x y h = h
 as_truth {A} final P operators.Senseless w x y h = absurd h
 
 module _ (image : Image) (final : Final) (depth : ℕ) (code : List (Instr ℕ)) (callers : List Frame) (starts : List Start) (p : Places ℕ) (types : List Type') where
-  abbrev Onto : ℕ → List (Instr ℕ) → List Cell → ℕ → List Cell → World → Type 0
+  abbrev Onto : ℕ → List (Instr ℕ) → List Cell → ℕ → List Cell → ProgramState → Type 0
   Onto t k front m stack w = On image final depth code callers starts p t k front m stack w
 
-  abbrev Goes_on : ℕ → List (Instr ℕ) → Locals → List Cell → ℕ → List Cell → World → Type 0
+  abbrev Goes_on : ℕ → List (Instr ℕ) → Locals → List Cell → ℕ → List Cell → ProgramState → Type 0
   Goes_on t k locals low m stack w = Follows image final depth code callers starts p types t k locals low m stack w
 
   -- a truth value jumps where it is true
-  jumps_if : {A : Type 0} (P : A → World → Type 0) (x y : Outcome A) (t n : ℕ) (k target : List (Instr ℕ)) (front : List Cell) (m : ℕ) (stack : List Cell) (w : World) (v : Value) → Past k n target → (Onward final P x → Onto t target front m stack w) → (Onward final P y → Onto t k front m stack w) → Onward final P (if_true v x y) → Onto t (Go_to (JumpIf n) ∷ k) front m (stack ++ flat v) w
+  jumps_if : {A : Type 0} (P : A → ProgramState → Type 0) (x y : Outcome A) (t n : ℕ) (k target : List (Instr ℕ)) (front : List Cell) (m : ℕ) (stack : List Cell) (w : ProgramState) (v : Value) → Past k n target → (Onward final P x → Onto t target front m stack w) → (Onward final P y → Onto t k front m stack w) → Onward final P (if_true v x y) → Onto t (Go_to (JumpIf n) ∷ k) front m (stack ++ flat v) w
   jumps_if {A} P x y t n k target front m stack w (single (Truth true)) past first second h = λ known few place high long s.
       let s1 = stands_past code k target (place + 1) n past (stands_next code place _ k s) in
       jump_if_leads image (here image final depth code callers starts p place (front ++ high) (stack ++ Truth true ∷ []) w) _ callers n stack final (record { frames = refl; rest = k; stands = s }) refl s1.within
@@ -107,7 +107,7 @@ module _ (image : Image) (final : Final) (depth : ℕ) (code : List (Instr ℕ))
       first : total types + length low ≡ at + cells of
       first = omega (arith, there, length-append before (flat tag), flat_long of tag typed)
 
-      tag_loads : (k : List (Instr ℕ)) (w : World) → Goes_on t k locals low m (flat tag) w → Goes_on t (load at (cells of) ∷ k) locals low m [] w
+      tag_loads : (k : List (Instr ℕ)) (w : ProgramState) → Goes_on t k locals low m (flat tag) w → Goes_on t (load at (cells of) ∷ k) locals low m [] w
       tag_loads k w on rows fits =
           let shape : (together rows ++ before) ++ (flat tag ++ []) ≡ together rows ++ low = ap (λ l. (together rows ++ before) ++ l) (append-nil (flat tag)) ∙ append_assoc (together rows) before (flat tag) in
           on_front image final depth code callers starts p t (load at (cells of) ∷ k) _ _ m [] w shape
@@ -116,11 +116,11 @@ module _ (image : Image) (final : Final) (depth : ℕ) (code : List (Instr ℕ))
           (on_front image final depth code callers starts p t k _ _ m (flat tag) w (sym shape) (on rows fits)))
 
       -- what follows behind the cases of one clause: its body, or the other tests
-      abbrev Cased : List (Instr ℕ) → List (Instr ℕ) → Bool → World → Type 0
+      abbrev Cased : List (Instr ℕ) → List (Instr ℕ) → Bool → ProgramState → Type 0
       Cased rest target true w = Goes_on t target locals low m [] w
       Cased rest target false w = Goes_on t rest locals low m [] w
 
-      cases_follow : (es : Exprs) (d k far : ℕ) (rest target : List (Instr ℕ)) (w : World) → at + cells of + d ≡ k → d + exprs_temps es ≤ m → Past rest far target → Onward final (Cased rest target) (is_case calls of tag es locals w) → Goes_on t (cases_code p at of k es far ++ rest) locals low m [] w
+      cases_follow : (es : Exprs) (d k far : ℕ) (rest target : List (Instr ℕ)) (w : ProgramState) → at + cells of + d ≡ k → d + exprs_temps es ≤ m → Past rest far target → Onward final (Cased rest target) (is_case calls of tag es locals w) → Goes_on t (cases_code p at of k es far ++ rest) locals low m [] w
       cases_follow no_exprs d k far rest target w behind le past h = h
       cases_follow (some_exprs e es) d k far rest target w behind le past h =
           let ops = binary_operators (underlying of) (comparison Equal) in
@@ -135,7 +135,7 @@ module _ (image : Image) (final : Final) (depth : ℕ) (code : List (Instr ℕ))
           (λ v w1 more typed1 rows fits.
           on_stack image final depth code callers starts p t (operators_code ops ++ next) (together rows ++ low) m _ _ w1 (ap (λ l. flat tag ++ l) (append-nil (flat v)))
           (operators_run image final depth code callers starts p t (basic basics.Bool) ops (tag ∷ v ∷ []) next (together rows ++ low) m [] w1
-          (onward_map final _ _ (given (basic basics.Bool) (operated ops (tag ∷ v ∷ [])) w1)
+          (onward_map final _ _ (typed_or_panic (basic basics.Bool) (operated ops (tag ∷ v ∷ [])) w1)
           (λ b w2 most truth.
           jumps_if (Cased rest target) (Gives true w2) (is_case calls of tag es locals w2) t n (others ++ rest) target (together rows ++ low) m [] w2 b (past_more others rest far n target refl past)
           (λ on. on rows fits)
@@ -151,28 +151,28 @@ module _ (image : Image) (final : Final) (depth : ℕ) (code : List (Instr ℕ))
         target o = from_clause_on codes rest o
 
         abbrev whole : List (Instr ℕ)
-        whole = joined codes ++ rest
+        whole = concat_code codes ++ rest
 
-        abbrev Chosen : Option ℕ → World → Type 0
+        abbrev Chosen : Option ℕ → ProgramState → Type 0
         Chosen o w = Goes_on t (target o) locals low m [] w
 
         -- the clause's own code is the target, or the other tests are followed
-        chosen_or : (n : ℕ) (tests : List (Instr ℕ)) (others : World → Outcome (Option ℕ)) → ((w : World) → Onward final Chosen (others w) → Goes_on t tests locals low m [] w) → (b : Bool) (w : World) → Onward final Chosen (if b then Gives (Some n) w else others w) → Cased tests (target (Some n)) b w
+        chosen_or : (n : ℕ) (tests : List (Instr ℕ)) (others : ProgramState → Outcome (Option ℕ)) → ((w : ProgramState) → Onward final Chosen (others w) → Goes_on t tests locals low m [] w) → (b : Bool) (w : ProgramState) → Onward final Chosen (if b then Gives (Some n) w else others w) → Cased tests (target (Some n)) b w
         chosen_or n tests others f true w h = h
         chosen_or n tests others f false w h = f w h
 
-        pub tests_follow : (cs : Clauses) (xs : List (List (Instr ℕ))) (n far place jump d k : ℕ) (other : Option ℕ) (w : World) → AsMany cs xs → xs ≡ drop n codes → Past whole far (joined xs ++ rest) → Past whole place (target other) → jump ≡ default_place cs (map length xs) far place → at + cells of + d ≡ k → d + cases_temps cs ≤ m → Onward final Chosen (chosen calls of tag cs n other locals w) → Goes_on t (tests_code p at of k cs (map length xs) far ++ (Go_to (Jump jump) ∷ whole)) locals low m [] w
+        pub tests_follow : (cs : Clauses) (xs : List (List (Instr ℕ))) (n far place jump d k : ℕ) (other : Option ℕ) (w : ProgramState) → AsMany cs xs → xs ≡ drop n codes → Past whole far (concat_code xs ++ rest) → Past whole place (target other) → jump ≡ default_place cs (map length xs) far place → at + cells of + d ≡ k → d + cases_temps cs ≤ m → Onward final Chosen (chosen calls of tag cs n other locals w) → Goes_on t (tests_code p at of k cs (map length xs) far ++ (Go_to (Jump jump) ∷ whole)) locals low m [] w
         tests_follow no_clauses [] n far place jump d k other w many own past aim is behind le h = λ rows fits.
             jumps image final depth code callers starts p types t jump whole (target other) (together rows ++ low) m [] w (subst (λ j. Past whole j (target other)) (sym is) aim) (h rows fits)
         tests_follow no_clauses (x ∷ xs) n far place jump d k other w many own past aim is behind le h = absurd many
         tests_follow (clause es body falls cs) [] n far place jump d k other w many own past aim is behind le h = absurd many
         tests_follow (clause None body falls cs) (x ∷ xs) n far place jump d k other w many own past aim is behind le h =
-            let here_past : Past whole far (target (Some n)) = past_as whole (joined (x ∷ xs) ++ rest) (target (Some n)) far (ap (λ l. joined l ++ rest) own) past in
-            let next_past = past_on whole x (joined xs ++ rest) far (past_as whole ((x ++ joined xs) ++ rest) (x ++ (joined xs ++ rest)) far (append_assoc x (joined xs) rest) past) in
+            let here_past : Past whole far (target (Some n)) = past_as whole (concat_code (x ∷ xs) ++ rest) (target (Some n)) far (ap (λ l. concat_code l ++ rest) own) past in
+            let next_past = past_on whole x (concat_code xs ++ rest) far (past_as whole ((x ++ concat_code xs) ++ rest) (x ++ (concat_code xs ++ rest)) far (append_assoc x (concat_code xs) rest) past) in
             tests_follow cs xs (n + 1) (far + length x) far jump d (k + 0) (Some n) w many (next_codes n x xs codes own) next_past here_past is (omega (arith, behind)) (omega (arith, le)) h
         tests_follow (clause (Some es) body falls cs) (x ∷ xs) n far place jump d k other w many own past aim is behind le h =
-            let here_past : Past whole far (target (Some n)) = past_as whole (joined (x ∷ xs) ++ rest) (target (Some n)) far (ap (λ l. joined l ++ rest) own) past in
-            let next_past = past_on whole x (joined xs ++ rest) far (past_as whole ((x ++ joined xs) ++ rest) (x ++ (joined xs ++ rest)) far (append_assoc x (joined xs) rest) past) in
+            let here_past : Past whole far (target (Some n)) = past_as whole (concat_code (x ∷ xs) ++ rest) (target (Some n)) far (ap (λ l. concat_code l ++ rest) own) past in
+            let next_past = past_on whole x (concat_code xs ++ rest) far (past_as whole ((x ++ concat_code xs) ++ rest) (x ++ (concat_code xs ++ rest)) far (append_assoc x (concat_code xs) rest) past) in
             let others = tests_code p at of (k + exprs_temps es) cs (map length xs) (far + length x) in
             let next : List (Instr ℕ) = Go_to (Jump jump) ∷ whole in
             let over : Past (others ++ next) (length others + 1 + far) (target (Some n)) = past_more others next (1 + far) (length others + 1 + far) (target (Some n)) (omega arith) (past_more (Go_to (Jump jump) ∷ []) whole far (1 + far) (target (Some n)) refl here_past) in

@@ -9,7 +9,7 @@ use Rattle.go_code.specs.Finals.{Final}
 use Rattle.go_typed.specs.Trees.{Symbol}
 use Rattle.go_meaning.specs.Values.{Value, flat, is_of}
 use Rattle.go_symbol.specs.Symbols.{same_symbol}
-use Rattle.go_meaning.specs.Meaning.{Stored, World, Local, Locals, if_known, with_local, with_global}
+use Rattle.go_meaning.specs.Meaning.{Stored, ProgramState, Local, Locals, if_known, with_local, with_global}
 use Rattle.go_translation_laws.proofs.Frames.{types_of}
 use Rattle.go_meaning_laws.proofs.Values.{flat_long}
 use Rattle.go_translation_laws.proofs.Runs.{Onward, held, Sized, global_at}
@@ -25,7 +25,7 @@ types_stay (x ∷ xs) zero l m found e = ap (λ t. t ∷ types_of xs) (e ∙ sym
 types_stay (x ∷ xs) (suc n) l m found e = ap (λ ts. x.of ∷ ts) (types_stay xs n l m found e)
 
 -- a local variable that gets a value
-pub local_put : (final : Final) (P : Locals → World → Type 0) (locals : Locals) (n : ℕ) (l : Local) (new : Value) (w : World) → slice_get locals n ≡ Some l → Onward final P (if_known (with_local locals n new) w) → (is_of l.of new ≡ true) × P (slice_set locals n (record { of = l.of; value = Some new })) w
+pub local_put : (final : Final) (P : Locals → ProgramState → Type 0) (locals : Locals) (n : ℕ) (l : Local) (new : Value) (w : ProgramState) → slice_get locals n ≡ Some l → Onward final P (if_known (with_local locals n new) w) → (is_of l.of new ≡ true) × P (slice_set locals n (record { of = l.of; value = Some new })) w
 local_put final P locals n l new w found h =
     by_test (is_of l.of new) refl
     (subst (λ o. Onward final P (if_known (option_and_then (λ m. if is_of m.of new then Some (slice_set locals n (record { of = m.of; value = Some new })) else None) o) w)) found h)

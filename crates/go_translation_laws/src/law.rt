@@ -8,12 +8,12 @@ ghost use Rattle.go_typed.specs.Trees.{Package};
 ghost use Rattle.go_meaning.specs.Programs.{IsProgram};
 ghost use Rattle.go_gen.specs.Translation.{object_of};
 ghost use Rattle.go_meaning_laws.specs.WellTyped.{IsWellTyped};
-ghost use Rattle.go_translation_laws.specs.Programs.{HaveOneEdition, IsLinked, Follows, IsSafe, IsMeant, MakesSense, MeansTheSame, HasMeaning};
+ghost use Rattle.go_translation_laws.specs.Programs.{HaveOneEdition, IsLinked, Simulates, IsSafe, IsMeant, MakesSense, MeansTheSame, ImageHasMeaning};
 
 /// A linked program, given any number of ticks, prints and ends as its sources do. Where no rule of
 /// the language is broken it does nothing else, and its code makes sense.
 pub fn law_program_means_sources()
-    ensures means { (packages : List Package) (image : Image) → IsLinked packages image → Follows packages image }
+    ensures means { (packages : List Package) (image : Image) → IsLinked packages image → Simulates packages image }
     ensures meant { (packages : List Package) (image : Image) (ticks : ℕ) → IsLinked packages image → IsSafe packages ticks → IsMeant packages image ticks }
     ensures sense { (packages : List Package) (image : Image) (ticks : ℕ) → IsLinked packages image → IsSafe packages ticks → MakesSense image ticks }
 {}
@@ -32,7 +32,7 @@ pub fn law_programs_are_linked()
 pub fn law_well_typed_programs_are_meant()
     ensures same { (packages : List Package) (image : Image) → IsWellTyped packages → IsLinked packages image → MeansTheSame packages image }
     ensures sense { (packages : List Package) (image : Image) (ticks : ℕ) → IsWellTyped packages → IsLinked packages image → MakesSense image ticks }
-    ensures ends { (packages : List Package) (image : Image) (ticks : ℕ) → IsWellTyped packages → IsLinked packages image → HasMeaning image ticks }
+    ensures ends { (packages : List Package) (image : Image) (ticks : ℕ) → IsWellTyped packages → IsLinked packages image → ImageHasMeaning image ticks }
     ensures linked { (packages : List Package) → IsWellTyped packages → (link_refusal (map object_of packages) ≡ None) ↔ (IsProgram packages × HaveOneEdition packages) }
     ensures several { (packages : List Package) → IsWellTyped packages → IsProgram packages → ¬ (HaveOneEdition packages)
         → link_refusal (map object_of packages) ≡ Some EditionsDiffer }

@@ -66,16 +66,16 @@ pub data Left : Type 0 where
   of_slice : Type' → Expr → Steps → Left
 
 -- values that are due: each by an expression, or all by one call, whose results have these types; or the zero values of these types
-pub data Source : Type 0 where
-  each : Exprs → Source
-  results : List Type' → Symbol → Exprs → Source
-  zeros : List Type' → Source
+pub data ValueSource : Type 0 where
+  each : Exprs → ValueSource
+  results : List Type' → Symbol → Exprs → ValueSource
+  zeros : List Type' → ValueSource
 
 mutual
   pub data Stmt : Type 0 where
     -- local variables get values, a blank one has no number; without any it is a declaration of constants
-    define : List (Option ℕ) → Source → Stmt
-    assign : List Left → Source → Stmt
+    define : List (Option ℕ) → ValueSource → Stmt
+    assign : List Left → ValueSource → Stmt
     -- an operator and an assignment to a left side, whose part has that type
     update : Type' → Left → Operator → Expr → Stmt
     -- a call whose results, of these types, are dropped
@@ -91,7 +91,7 @@ mutual
     block : Stmts → Stmt
     break : Stmt
     continue : Stmt
-    return : Source → Stmt
+    return : ValueSource → Stmt
 
   pub data Stmts : Type 0 where
     no_stmts : Stmts
@@ -123,7 +123,7 @@ pub record Initialization : Type 0 where
   pub variables : List (Option (List ℕ))
   pub file : List ℕ
   pub place : Place
-  pub source : Source
+  pub source : ValueSource
   pub references : List (List ℕ)
 
 -- A package: its path, its name, the edition of its files, and what it declares, in declaration order. Each function stands under `uses` too, with

@@ -1,4 +1,4 @@
 pub mod OneText
-pub mod Spelled
+mod Spelled
 pub mod Crossing
-pub mod Dropped
+mod Dropped

@@ -4,7 +4,7 @@ use Rattle.std.specs.Coded.{Coded, code_by, coded_ℕ, coded_list, coded_option,
 use mathlib.Core.Path.{sym, ap, ◌∙◌}
 use base.Stored.{Gv, gnum, gcons, gnil}
 use Rattle.go_types.specs.contracts.types.Basic as basics
-use Rattle.go_types.specs.Types.{Type', basic, array, slice, struct, named, Fields, no_fields, field, Declared}
+use Rattle.go_types.specs.Types.{Type', basic, array, slice, struct, named, Fields, no_fields, field, DeclaredType}
 
 abbrev pub bytes_code : Coded (List ℕ)
 bytes_code = coded_list coded_ℕ
@@ -88,7 +88,7 @@ type_code = record { code = type_tree; inj = one_type }
 abbrev pub fields_code : Coded Fields
 fields_code = record { code = fields_tree; inj = one_fields }
 
-abbrev pub declared_code : Coded Declared
+abbrev pub declared_code : Coded DeclaredType
 declared_code =
     code_by (List ℕ × (List ℕ × Type')) (coded× bytes_code (coded× bytes_code type_code))
     (λ d. (d.path, (d.name, d.type))) (λ p. record { path = p.0; name = p.1.0; type = p.1.1 }) (λ _. refl)

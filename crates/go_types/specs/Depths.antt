@@ -6,10 +6,10 @@ use Rattle.go_types.specs.declared.types.Field.{Field}
 use Rattle.go_types.specs.declared.types.GoType.{GoType}
 use Rattle.go_types.specs.declared.types.GoType.TheVariants.{Basic, Array, Slice, Struct, Named}
 use Rattle.go_types.specs.declared.types.Element.TheDeep.{deep-GoType, deep-Field}
-use Rattle.go_types.specs.Views.{type_of, fields_in}
+use Rattle.go_types.specs.Views.{go_type, fields_in}
 use Rattle.go_types.specs.Sizes.{nodes, nodes_of}
 
-pub parts_fall : (t : GoType) → max (deep-GoType t) 0 ≤ nodes (type_of t)
+pub parts_fall : (t : GoType) → max (deep-GoType t) 0 ≤ nodes (go_type t)
 parts_fall (Basic b) = omega arith
 parts_fall (Array n e) = omega arith
 parts_fall (Slice e) = omega arith

@@ -38,16 +38,16 @@ is_literal (struct _) = true
 is_literal (named _ _ _) = false
 
 -- an untyped value has a kind that fits the basic type
-abbrev pub fits : Type' → Type' → Bool
-fits (basic (basics.Untyped kinds.Bool)) (basic basics.Bool) = true
-fits (basic (basics.Untyped kinds.Int)) (basic (basics.Integer i)) = true
-fits (basic (basics.Untyped kinds.Rune)) (basic (basics.Integer i)) = true
-fits (basic (basics.Untyped kinds.String)) (basic basics.String) = true
-fits value target = false
+abbrev pub kind_fits : Type' → Type' → Bool
+kind_fits (basic (basics.Untyped kinds.Bool)) (basic basics.Bool) = true
+kind_fits (basic (basics.Untyped kinds.Int)) (basic (basics.Integer i)) = true
+kind_fits (basic (basics.Untyped kinds.Rune)) (basic (basics.Integer i)) = true
+kind_fits (basic (basics.Untyped kinds.String)) (basic basics.String) = true
+kind_fits value target = false
 
 -- a value of the first type may be assigned to a variable of the second
 abbrev pub assignable : Type' → Type' → Bool
-assignable v t = identical v t || (is_literal v || is_literal t) && identical (underlying v) (underlying t) || fits v (underlying t)
+assignable v t = identical v t || (is_literal v || is_literal t) && identical (underlying v) (underlying t) || kind_fits v (underlying t)
 
 -- the types are integer types
 abbrev pub are_integers : Type' → Type' → Bool
@@ -56,7 +56,7 @@ are_integers a b = false
 
 -- a value of the first type that isn't constant may be converted to the second
 abbrev pub convertible : Type' → Type' → Bool
-convertible v t = identical (underlying v) (underlying t) || are_integers (underlying v) (underlying t) || fits v (underlying t)
+convertible v t = identical (underlying v) (underlying t) || are_integers (underlying v) (underlying t) || kind_fits v (underlying t)
 
 -- https://go.dev/ref/spec#Comparison_operators
 -- values of the type may be compared: no slice is a part of it

@@ -34,6 +34,6 @@ abbrev pub kept : ℕ → ℕ
 kept n = min n 65537
 
 -- the numbers are those of the type
-pub record IsSized (t : Type') (size : Size) : Type 0 where
+pub record IsSizeOfType (t : Type') (size : Size) : Type 0 where
   pub cells : size.cells ≡ kept (cells t)
   pub nodes : size.nodes ≡ kept (nodes t)

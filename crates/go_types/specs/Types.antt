@@ -18,7 +18,7 @@ mutual
     field : Option (List ℕ) → List ℕ → Type' → Fields → Fields
 
 -- a declared type by its package's path, its name, and the type that it is declared as
-pub record Declared : Type 0 where
+pub record DeclaredType : Type 0 where
   pub path : List ℕ
   pub name : List ℕ
   pub type : Type'

@@ -1,15 +1,15 @@
 //! Which types are identical, and which values may be assigned and converted to a type.
 ghost use Rattle.std.specs.Prelude.{◌≡◌, bytes_eq};
-ghost use Rattle.go_types.specs.Views.{type_of, fields_in};
+ghost use Rattle.go_types.specs.Views.{go_type, fields_in};
 ghost use Rattle.go_types.specs.Texts.{basic_text};
-ghost use Rattle.go_types.specs.Relations.{underlying, identical, all_identical, is_literal, fits, assignable, are_integers, convertible, is_comparable, are_comparable};
+ghost use Rattle.go_types.specs.Relations.{underlying, identical, all_identical, is_literal, kind_fits, assignable, are_integers, convertible, is_comparable, are_comparable};
 
 use crate::types::{Basic, Field, GoType, Untyped};
 
 /// The underlying type of a type: of a declared one, that of the type that it is declared as.
 /// [Underlying types](https://go.dev/ref/spec#Underlying_types)
 pub fn underlying(of: &GoType) -> &GoType
-    ensures { type_of result.now ≡ underlying (type_of of.now) }
+    ensures { go_type result.now ≡ underlying (go_type of.now) }
 {
     match of {
         GoType::Named(named) => underlying(&named.underlying),
@@ -27,7 +27,7 @@ fn is_same(a: Basic, b: Basic) -> bool
 /// Whether two types are identical. [Type identity](https://go.dev/ref/spec#Type_identity)
 #[cycle(identity)]
 pub fn identical(a: &GoType, b: &GoType) -> bool
-    ensures { result ≡ identical (type_of a.now) (type_of b.now) }
+    ensures { result ≡ identical (go_type a.now) (go_type b.now) }
 {
     match (a, b) {
         (GoType::Basic(a), GoType::Basic(b)) => is_same(*a, *b),
@@ -63,7 +63,7 @@ fn all_identical(a: &[Field], b: &[Field]) -> bool
 
 /// Whether a type is neither basic nor declared.
 fn is_literal(of: &GoType) -> bool
-    ensures { result ≡ is_literal (type_of of.now) }
+    ensures { result ≡ is_literal (go_type of.now) }
 {
     matches!(
         of,
@@ -73,7 +73,7 @@ fn is_literal(of: &GoType) -> bool
 
 /// Whether a value of a type is untyped, and of a kind that fits a basic type.
 fn fits(value: &GoType, target: &GoType) -> bool
-    ensures { result ≡ fits (type_of value.now) (type_of target.now) }
+    ensures { result ≡ kind_fits (go_type value.now) (go_type target.now) }
 {
     match (value, target) {
         (GoType::Basic(Basic::Untyped(kind)), GoType::Basic(basic)) => matches!(
@@ -90,7 +90,7 @@ fn fits(value: &GoType, target: &GoType) -> bool
 /// apart whether its value lies in the type.
 /// [Assignability](https://go.dev/ref/spec#Assignability)
 pub fn assignable(value: &GoType, target: &GoType) -> bool
-    ensures { result ≡ assignable (type_of value.now) (type_of target.now) }
+    ensures { result ≡ assignable (go_type value.now) (go_type target.now) }
 {
     identical(value, target)
         || (is_literal(value) || is_literal(target))
@@ -100,7 +100,7 @@ pub fn assignable(value: &GoType, target: &GoType) -> bool
 
 /// Whether two types are integer types.
 fn are_integers(a: &GoType, b: &GoType) -> bool
-    ensures { result ≡ are_integers (type_of a.now) (type_of b.now) }
+    ensures { result ≡ are_integers (go_type a.now) (go_type b.now) }
 {
     matches!(
         (a, b),
@@ -114,7 +114,7 @@ fn are_integers(a: &GoType, b: &GoType) -> bool
 /// Whether a value of a type that isn't constant may be converted to another.
 /// [Conversions](https://go.dev/ref/spec#Conversions)
 pub fn convertible(value: &GoType, target: &GoType) -> bool
-    ensures { result ≡ convertible (type_of value.now) (type_of target.now) }
+    ensures { result ≡ convertible (go_type value.now) (go_type target.now) }
 {
     let (from, to) = (underlying(value), underlying(target));
     identical(from, to) || are_integers(from, to) || fits(value, to)
@@ -124,7 +124,7 @@ pub fn convertible(value: &GoType, target: &GoType) -> bool
 /// [Comparison operators](https://go.dev/ref/spec#Comparison_operators)
 #[cycle(comparable)]
 pub fn is_comparable(of: &GoType) -> bool
-    ensures { result ≡ is_comparable (type_of of.now) }
+    ensures { result ≡ is_comparable (go_type of.now) }
 {
     match of {
         GoType::Basic(_) => true,

@@ -1,7 +1,7 @@
 //! How large types are.
 ghost use Rattle.std.specs.Prelude.{◌≡◌, ◌+◌, ◌*◌, ◌<◌, ◌≤◌, ℕ, List, IfOk, IfErr};
-ghost use Rattle.go_types.specs.Views.{type_of, fields_in};
-ghost use Rattle.go_types.specs.Sizes.{cells, nodes, kept, IsSized};
+ghost use Rattle.go_types.specs.Views.{go_type, fields_in};
+ghost use Rattle.go_types.specs.Sizes.{cells, nodes, kept, IsSizeOfType};
 ghost use Rattle.go_types.specs.Types.{struct, named};
 
 use crate::types::{Field, GoType, Size};
@@ -61,7 +61,7 @@ fn slice_size(element: Size) -> Size
 
 /// The size of a type. What has parts keeps theirs, so that no tree is walked.
 pub(crate) fn size_of(of: &GoType) -> Size
-    ensures { IsSized (type_of of.now) result }
+    ensures { IsSizeOfType (go_type of.now) result }
 {
     match of {
         GoType::Basic(_) => Size { cells: 1, nodes: 1 },
@@ -74,7 +74,7 @@ pub(crate) fn size_of(of: &GoType) -> Size
 
 /// The size of structs of some fields.
 pub(crate) fn struct_size(fields: &[Field]) -> Size
-    ensures { IsSized (struct (fields_in fields.now)) result }
+    ensures { IsSizeOfType (struct (fields_in fields.now)) result }
 {
     let mut size = Size { cells: 0, nodes: 1 };
     for field in fields {
@@ -89,7 +89,7 @@ pub(crate) fn struct_size(fields: &[Field]) -> Size
 
 /// The size of a declared type, by what it is declared as.
 pub(crate) fn named_size(underlying: &GoType) -> Size
-    ensures { (path name : List ℕ) → IsSized (named path name (type_of underlying.now)) result }
+    ensures { (path name : List ℕ) → IsSizeOfType (named path name (go_type underlying.now)) result }
 {
     let size = size_of(underlying);
     Size {
@@ -101,9 +101,9 @@ pub(crate) fn named_size(underlying: &GoType) -> Size
 /// How many cells a value of a type has: one of a basic type and a slice have 1, an array those of
 /// all its elements, a struct those of all its fields. An `Err` where they are more than `SIZE_LIMIT`.
 pub fn cells(of: &GoType) -> Result<u32, SizeError>
-    ensures ok { IfOk result (λ n. n ≡ cells (type_of of.now)) }
+    ensures ok { IfOk result (λ n. n ≡ cells (go_type of.now)) }
     ensures within { IfOk result (λ n. n ≤ 65536) }
-    ensures too_large { IfErr result (λ _. 65536 < cells (type_of of.now)) }
+    ensures too_large { IfErr result (λ _. 65536 < cells (go_type of.now)) }
 {
     within(size_of(of).cells)
 }
@@ -112,9 +112,9 @@ pub fn cells(of: &GoType) -> Result<u32, SizeError>
 /// type are 1 more than what is inside, a struct is 1 more than the types of its fields. An `Err` where
 /// they are more than `SIZE_LIMIT`.
 pub fn nodes(of: &GoType) -> Result<u32, SizeError>
-    ensures ok { IfOk result (λ n. n ≡ nodes (type_of of.now)) }
+    ensures ok { IfOk result (λ n. n ≡ nodes (go_type of.now)) }
     ensures within { IfOk result (λ n. n ≤ 65536) }
-    ensures too_large { IfErr result (λ _. 65536 < nodes (type_of of.now)) }
+    ensures too_large { IfErr result (λ _. 65536 < nodes (go_type of.now)) }
 {
     within(size_of(of).nodes)
 }

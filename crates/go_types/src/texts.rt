@@ -1,7 +1,7 @@
 //! The texts of types, which are hashed.
 ghost use Rattle.std.specs.Prelude.{◌≡◌, ◌++◌, OnOk, IfOk, codes, option_map, string_bytes};
 ghost use Rattle.std.specs.Fmt.{decimal};
-ghost use Rattle.go_types.specs.Views.{type_of, fields_in};
+ghost use Rattle.go_types.specs.Views.{go_type, fields_in};
 ghost use Rattle.go_types.specs.Texts.{basic_text, type_text, name_text, fields_text};
 
 use crate::types::{Basic, Field, GoType, IntKind, Untyped};
@@ -89,7 +89,7 @@ fn push_head(text: &mut Vec<u8>, path: &str, name: &str) -> Result<(), AllocErro
 /// The text of a type comes behind a text.
 #[cycle(texts)]
 fn push_type(alloc: Global, text: &mut Vec<u8>, of: &GoType) -> Result<(), AllocError>
-    ensures { OnOk result (text.new.items ≡ text.old.items ++ type_text (type_of of.now)) }
+    ensures { OnOk result (text.new.items ≡ text.old.items ++ type_text (go_type of.now)) }
 {
     match of {
         GoType::Basic(basic) => push_part(text, basic_name(*basic).as_bytes()),
@@ -132,7 +132,7 @@ fn push_fields(alloc: Global, text: &mut Vec<u8>, fields: &[Field]) -> Result<()
 /// package's path, a space, the text of what it is declared as, and `)`. An `Err` only where memory
 /// ran out.
 pub fn type_text(alloc: Global, of: &GoType) -> Result<Vec<u8>, AllocError>
-    ensures { IfOk result (λ text. text.items ≡ type_text (type_of of.now)) }
+    ensures { IfOk result (λ text. text.items ≡ type_text (go_type of.now)) }
 {
     let mut text = Vec::new(alloc);
     push_type(alloc, &mut text, of)?;

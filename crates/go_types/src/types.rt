@@ -87,12 +87,12 @@ impl Model for Element {
 
     ghost coded = { type_code };
 
-    ghost use Rattle.go_types.specs.Views.{type_of};
-    ghost use Rattle.go_types.specs.Sizes.{nodes, IsSized};
+    ghost use Rattle.go_types.specs.Views.{go_type};
+    ghost use Rattle.go_types.specs.Sizes.{nodes, IsSizeOfType};
 
-    ghost view = { λ a. type_of a.of };
+    ghost view = { λ a. go_type a.of };
 
-    ghost invariant = { λ a. IsSized (type_of a.of) a.size };
+    ghost invariant = { λ a. IsSizeOfType (go_type a.of) a.size };
 
     ghost size = { nodes };
 
@@ -119,11 +119,11 @@ impl Model for Fields {
     ghost coded = { fields_code };
 
     ghost use Rattle.go_types.specs.Views.{fields_in};
-    ghost use Rattle.go_types.specs.Sizes.{nodes_of, IsSized};
+    ghost use Rattle.go_types.specs.Sizes.{nodes_of, IsSizeOfType};
 
     ghost view = { λ a. fields_in a.list.items };
 
-    ghost invariant = { λ a. IsSized (types.struct (fields_in a.list.items)) a.size };
+    ghost invariant = { λ a. IsSizeOfType (types.struct (fields_in a.list.items)) a.size };
 
     ghost size = { nodes_of };
 
@@ -146,20 +146,20 @@ pub struct Named {
 }
 
 impl Model for Named {
-    ghost use Rattle.go_types.specs.Types.{Declared};
+    ghost use Rattle.go_types.specs.Types.{DeclaredType};
     ghost use Rattle.go_types.specs.Codes.{declared_code};
 
-    ghost Value = { Declared };
+    ghost Value = { DeclaredType };
 
     ghost coded = { declared_code };
 
     ghost use Rattle.std.specs.Prelude.{string_bytes};
-    ghost use Rattle.go_types.specs.Views.{type_of, declared};
-    ghost use Rattle.go_types.specs.Sizes.{nodes, IsSized};
+    ghost use Rattle.go_types.specs.Views.{go_type, declared};
+    ghost use Rattle.go_types.specs.Sizes.{nodes, IsSizeOfType};
 
-    ghost view = { λ a. record { path = string_bytes a.path; name = string_bytes a.name; type = type_of a.underlying } };
+    ghost view = { λ a. record { path = string_bytes a.path; name = string_bytes a.name; type = go_type a.underlying } };
 
-    ghost invariant = { λ a. IsSized (declared (record { path = string_bytes a.path; name = string_bytes a.name; type = type_of a.underlying })) a.size };
+    ghost invariant = { λ a. IsSizeOfType (declared (record { path = string_bytes a.path; name = string_bytes a.name; type = go_type a.underlying })) a.size };
 
     ghost size = { λ v. nodes v.type };
 
@@ -220,11 +220,11 @@ impl Drop for GoType {
 }
 
 impl GoType {
-    ghost use Rattle.go_types.specs.Views.{type_of};
+    ghost use Rattle.go_types.specs.Views.{go_type};
 
     /// Another of equal contents, which has its parts in common with this one. An `Err` only where memory ran out.
     pub fn copy(&self) -> Result<GoType, AllocError>
-        ensures { IfOk result (λ t. type_of t ≡ type_of self.now) }
+        ensures { IfOk result (λ t. go_type t ≡ go_type self.now) }
     {
         Ok(match self {
             GoType::Basic(basic) => GoType::Basic(*basic),
@@ -237,11 +237,11 @@ impl GoType {
 }
 
 impl Element {
-    ghost use Rattle.go_types.specs.Views.{type_of};
+    ghost use Rattle.go_types.specs.Views.{go_type};
 
     /// The elements of a type.
     pub fn new(of: GoType) -> Element
-        ensures { result ≡ type_of of }
+        ensures { result ≡ go_type of }
     {
         let size = size_of(&of);
         Element { of, size }
@@ -261,13 +261,13 @@ impl Fields {
 }
 
 impl Named {
-    ghost use Rattle.go_types.specs.Views.{type_of};
+    ghost use Rattle.go_types.specs.Views.{go_type};
 
     /// The type that the package of a path declares under a name, by what it is declared as.
     pub fn new(path: String, name: String, underlying: GoType) -> Named
         ensures path { result.path ≡ string_bytes path }
         ensures name { result.name ≡ string_bytes name }
-        ensures underlying { result.type ≡ type_of underlying }
+        ensures underlying { result.type ≡ go_type underlying }
     {
         let size = named_size(&underlying);
         Named {

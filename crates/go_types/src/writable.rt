@@ -1,7 +1,7 @@
 //! Which types' texts tell them: names in them are spelled without what parts the text.
 ghost use Rattle.std.specs.Prelude.{◌≡◌, Some, option_map, string_bytes};
 ghost use Rattle.std.specs.Bool.{Decides};
-ghost use Rattle.go_types.specs.Views.{type_of, fields_in};
+ghost use Rattle.go_types.specs.Views.{go_type, fields_in};
 ghost use Rattle.go_types.specs.Texts.{Lacks, IsSpelled, IsWritable, AreWritable};
 
 use crate::types::{Field, GoType};
@@ -48,7 +48,7 @@ fn is_spelled(owner: &Option<String>, name: &str) -> bool
 /// Whether all names in a type are.
 #[cycle(writable)]
 fn is_written(of: &GoType) -> bool
-    ensures { Decides result (IsWritable (type_of of.now)) }
+    ensures { Decides result (IsWritable (go_type of.now)) }
 {
     match of {
         GoType::Basic(_) => true,
@@ -79,7 +79,7 @@ fn are_written(fields: &[Field]) -> bool
 
 /// Whether a type's text tells it.
 pub fn is_writable(of: &GoType) -> bool
-    ensures { Decides result (IsWritable (type_of of.now)) }
+    ensures { Decides result (IsWritable (go_type of.now)) }
 {
     is_written(of)
 }

@@ -2,7 +2,7 @@
 -- https://go.dev/ref/spec#Declarations_and_scope
 use Rattle.std.specs.Prelude.{ℕ, Bool, false, ◌&&◌, not, bytes_eq, List, [], ◌∷◌, ◌++◌, map, Option, Some, None, option_to_list}
 use Rattle.std.specs.List.{filter, flat_map, list_any}
-use Rattle.go_ast.specs.Trees.{Name, TypeExpr, Expr, Exprs, Simple, call_statement, increment, decrement, assignment, operator_assignment, short_var_decl, ConstSpec, VarSpec, TypeSpec, Decl, constants, variables, types, Stmt, declaration, simple, return, block_statement, if_statement, for_statement, range_statement, switch_statement, Block, block, If, conditional, Else, no_else, else_block, else_if, Stmts, no_stmts, some_stmts, Clauses, no_clauses, clause, Parameter, Function, TopLevel, declared, function, File}
+use Rattle.go_ast.specs.Trees.{Name, Simple, call_statement, increment, decrement, assignment, operator_assignment, short_var_decl, ConstSpec, VarSpec, TypeSpec, Decl, constants, variables, types, Statement, declaration, simple, return, block_statement, if_statement, for_statement, range_statement, switch_statement, Block, block, If, conditional, Else, no_else, else_block, else_if, StatementList, no_stmts, some_stmts, Cases, no_clauses, clause, Parameter, FunctionDecl, TopLevel, declared, function, File}
 use Rattle.go_scope.specs.Names.{Used, in_type, in_expr, in_exprs}
 
 abbrev pub texts : List Name → List (List ℕ)
@@ -59,50 +59,50 @@ simple_names s = elim s [ short_var_decl ns es ↦ texts ns | _ ↦ [] ]
 abbrev pub optional_names : Option Simple → List (List ℕ)
 optional_names s = elim s [ None ↦ [] | Some s ↦ simple_names s ]
 
-abbrev pub stmt_names : Stmt → List (List ℕ)
+abbrev pub stmt_names : Statement → List (List ℕ)
 stmt_names s = elim s [ declaration p d ↦ decl_names d | simple p s ↦ simple_names s | _ ↦ [] ]
 
 abbrev mutual
-  pub in_stmt : Stmt → List Used
+  pub in_stmt : Statement → List Used
   in_stmt (declaration p d) = in_decl d
   in_stmt (simple p s) = in_simple s
   in_stmt (return p es) = in_exprs es
-  in_stmt (block_statement b) = in_block b
+  in_stmt (block_statement b) = uses_in_block b
   in_stmt (if_statement i) = in_if i
   in_stmt (for_statement p before e post b) =
-      if_any in_simple before ++ outside (optional_names before) (if_any (in_expr false) e ++ (if_any in_simple post ++ in_block b))
-  in_stmt (range_statement p o e b) = in_expr false e ++ outside (texts (option_to_list o)) (in_block b)
+      if_any in_simple before ++ outside (optional_names before) (if_any (in_expr false) e ++ (if_any in_simple post ++ uses_in_block b))
+  in_stmt (range_statement p o e b) = in_expr false e ++ outside (texts (option_to_list o)) (uses_in_block b)
   in_stmt (switch_statement p before tag cs) =
       if_any in_simple before ++ outside (optional_names before) (if_any (in_expr false) tag ++ in_clauses cs)
   in_stmt s = []
 
-  pub in_block : Block → List Used
-  in_block (block p ss q) = in_list ss
+  pub uses_in_block : Block → List Used
+  uses_in_block (block p ss q) = in_list ss
 
   pub in_if : If → List Used
   in_if (conditional p before e b other) =
-      if_any in_simple before ++ outside (optional_names before) (in_expr false e ++ (in_block b ++ in_else other))
+      if_any in_simple before ++ outside (optional_names before) (in_expr false e ++ (uses_in_block b ++ in_else other))
 
   pub in_else : Else → List Used
   in_else no_else = []
-  in_else (else_block b) = in_block b
+  in_else (else_block b) = uses_in_block b
   in_else (else_if i) = in_if i
 
-  pub in_list : Stmts → List Used
+  pub in_list : StatementList → List Used
   in_list no_stmts = []
   in_list (some_stmts s ss) = in_stmt s ++ outside (stmt_names s) (in_list ss)
 
-  pub in_clauses : Clauses → List Used
+  pub in_clauses : Cases → List Used
   in_clauses no_clauses = []
   in_clauses (clause p es ss rest) = if_any in_exprs es ++ (in_list ss ++ in_clauses rest)
 
 -- ---- files
 
 -- parameters and results are looked up outside of the function
-abbrev pub in_function : Function → List Used
+abbrev pub in_function : FunctionDecl → List Used
 in_function f =
     flat_map (λ (p : Parameter). in_type p.type) f.parameters
-    ++ (flat_map in_type f.results ++ outside (flat_map (λ (p : Parameter). texts p.names) f.parameters) (in_block f.body))
+    ++ (flat_map in_type f.results ++ outside (flat_map (λ (p : Parameter). texts p.names) f.parameters) (uses_in_block f.body))
 
 -- names of the package hide no name of its files
 abbrev pub in_top : TopLevel → List Used

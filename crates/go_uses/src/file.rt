@@ -4,7 +4,7 @@ ghost use Rattle.std.specs.List.{flat_map};
 ghost use Rattle.go_ast.specs.Trees as trees;
 ghost use Rattle.go_ast.specs.Views.{type_of, const_of, var_of, type_spec_of, block_of, parameter_of, function_of, top_of};
 ghost use Rattle.go_scope.specs.Names.{in_type, used};
-ghost use Rattle.go_uses.specs.Uses.{texts, outside, in_block, in_const, in_var, in_function, in_top};
+ghost use Rattle.go_uses.specs.Uses.{texts, outside, uses_in_block, in_const, in_var, in_function, in_top};
 
 use crate::declarations::{in_const, in_var};
 use crate::expressions::in_type;
@@ -91,7 +91,7 @@ fn in_body<'a>(
     body: &'a Block,
 ) -> Result<Vec<UsedName<'a>>, AllocError>
     ensures { let hidden = flat_map (λ (p : trees.Parameter). texts p.names) (map parameter_of parameters.now) in
-        IfOk result (λ names. map used names.items ≡ outside hidden (in_block (block_of body.now))) }
+        IfOk result (λ names. map used names.items ≡ outside hidden (uses_in_block (block_of body.now))) }
 {
     let mut hidden = NameIndex::new(alloc);
     hide_parameters(&mut hidden, parameters)?;

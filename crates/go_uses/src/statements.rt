@@ -1,11 +1,11 @@
 //! Names in statements.
 ghost use Rattle.std.specs.Prelude.{◌≡◌, ◌++◌, map, false, option_to_list, IfOk, OnOk};
-ghost use Rattle.go_ast.specs.Machine.{pack_clauses};
-ghost use Rattle.go_ast.specs.Trees.{pack_stmts};
-ghost use Rattle.go_ast.specs.Views.{if_boxed, expr_of, exprs_in, simple_of, stmt_of, else_of, block_of, if_of, clause_of};
+ghost use Rattle.go_ast.specs.Machine.{pack_cases};
+ghost use Rattle.go_ast.specs.Trees.{pack_statements};
+ghost use Rattle.go_ast.specs.Views.{if_boxed, expr_of, simple_of, stmt_of, else_of, block_of, if_of, clause_of};
 ghost use Rattle.go_scope.specs.Names.{in_expr, used};
-ghost use Rattle.go_uses.specs.Seen.{for_of, range_of};
-ghost use Rattle.go_uses.specs.Uses.{if_any, texts, outside, in_simple, simple_names, optional_names, stmt_names, in_stmt, in_block, in_if, in_else, in_list, in_clauses};
+ghost use Rattle.go_uses.specs.Views.{for_of, range_of};
+ghost use Rattle.go_uses.specs.Uses.{if_any, texts, outside, in_simple, simple_names, optional_names, stmt_names, in_stmt, uses_in_block, in_if, in_else, in_list, in_clauses};
 
 use crate::declarations::{hide_decl, in_decl};
 use crate::expressions::{in_case, in_condition, in_expr, in_exprs};
@@ -111,7 +111,7 @@ fn in_stmt<'a>(alloc: Global, statement: &'a Stmt) -> Result<Vec<UsedName<'a>>, 
 /// The names that a block uses. An `Err` only where memory ran out.
 #[cycle(uses)]
 pub(crate) fn in_block<'a>(alloc: Global, block: &'a Block) -> Result<Vec<UsedName<'a>>, AllocError>
-    ensures { IfOk result (λ names. map used names.items ≡ in_block (block_of block.now)) }
+    ensures { IfOk result (λ names. map used names.items ≡ uses_in_block (block_of block.now)) }
 {
     in_list(alloc, &block.statements)
 }
@@ -166,7 +166,7 @@ pub fn names_outside<'a>(
     name: &'a Option<Name>,
     block: &'a Block,
 ) -> Result<Vec<UsedName<'a>>, AllocError>
-    ensures { IfOk result (λ names. map used names.items ≡ outside (texts (option_to_list name.now)) (in_block (block_of block.now))) }
+    ensures { IfOk result (λ names. map used names.items ≡ outside (texts (option_to_list name.now)) (uses_in_block (block_of block.now))) }
 {
     let names = in_block(alloc, block)?;
     let mut hidden = NameIndex::new(alloc);
@@ -183,7 +183,7 @@ fn in_switch<'a>(
     tag: &'a Option<Box<Expr>>,
     clauses: &'a [Clause],
 ) -> Result<Vec<UsedName<'a>>, AllocError>
-    ensures { let o = if_boxed simple_of before.now in let cs = pack_clauses (map clause_of clauses.now) in
+    ensures { let o = if_boxed simple_of before.now in let cs = pack_cases (map clause_of clauses.now) in
         IfOk result (λ names. map used names.items ≡
         if_any in_simple o ++ outside (optional_names o) (if_any (in_expr false) (if_boxed expr_of tag.now) ++ in_clauses cs)) }
 {
@@ -195,7 +195,7 @@ fn in_switch<'a>(
 /// Those of some statements.
 #[cycle(uses)]
 fn in_list<'a>(alloc: Global, statements: &'a [Stmt]) -> Result<Vec<UsedName<'a>>, AllocError>
-    ensures { IfOk result (λ names. map used names.items ≡ in_list (pack_stmts (map stmt_of statements.now))) }
+    ensures { IfOk result (λ names. map used names.items ≡ in_list (pack_statements (map stmt_of statements.now))) }
 {
     let mut hidden = NameIndex::new(alloc);
     let mut found = Vec::new(alloc);
@@ -209,7 +209,7 @@ fn in_list<'a>(alloc: Global, statements: &'a [Stmt]) -> Result<Vec<UsedName<'a>
 
 #[cycle(uses)]
 fn in_clauses<'a>(alloc: Global, clauses: &'a [Clause]) -> Result<Vec<UsedName<'a>>, AllocError>
-    ensures { IfOk result (λ names. map used names.items ≡ in_clauses (pack_clauses (map clause_of clauses.now))) }
+    ensures { IfOk result (λ names. map used names.items ≡ in_clauses (pack_cases (map clause_of clauses.now))) }
 {
     let mut found = Vec::new(alloc);
     for clause in clauses {

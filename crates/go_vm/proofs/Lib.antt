@@ -1,20 +1,20 @@
-pub mod Begun
-pub mod Calling
-pub mod Coming
-pub mod Decoding
-pub mod Going
-pub mod Handed
-pub mod Jumps
-pub mod Lifting
-pub mod Moving
-pub mod Numbers
-pub mod OneRow
-pub mod Pushing
-pub mod Readings
-pub mod Rows
-pub mod Settled
-pub mod Shells
-pub mod Sinks
-pub mod Slices
-pub mod Together
-pub mod Views
+mod Begun
+mod Calling
+mod Coming
+mod Decoding
+mod Going
+mod Handed
+mod Jumps
+mod Lifting
+mod Moving
+mod Numbers
+mod OneRow
+mod Pushing
+mod Readings
+mod Rows
+mod Settled
+mod Shells
+mod Sinks
+mod Slices
+mod Together
+mod Views

@@ -1,6 +1,6 @@
 //! What instructions do that stay in the newest frame.
 ghost use Rattle.std.specs.Prelude.{◌≡◌, ℕ, ◌+◌, ◌*◌, ◌∷◌, [], length, take, drop, ◌≤◌, IfOk, IfSome};
-ghost use Rattle.go_cells.specs.Told.{told_index, told_offset};
+ghost use Rattle.go_cells.specs.Results.{operated_index, operated_offset};
 ghost use Rattle.go_code.specs.Accesses.{access, loaded, stored, split_top};
 ghost use Rattle.go_code.specs.declared.instr.AccessInstr.TheVariants.{LoadAt, StoreAt};
 ghost use Rattle.go_code.specs.declared.instr.FrameInstr.TheVariants.{Push, Pop, Repeat};
@@ -8,9 +8,9 @@ ghost use Rattle.go_code.specs.declared.instr.JumpInstr.TheVariants.{Jump, JumpI
 ghost use Rattle.go_code.specs.declared.instr.PartInstr.TheVariants.{Move, Index, Pick, Part};
 ghost use Rattle.go_code.specs.Machine.{frame_step, jump_step};
 ghost use Rattle.go_code.specs.Operators.{Gives, operands, operate};
-ghost use Rattle.go_code.specs.Parts.{part, with_index};
-ghost use Rattle.go_vm.specs.Open.{top_of};
-ghost use Rattle.go_vm.specs.Told.{Does, framed, on_locals, on_globals, on_top, parted, in_place};
+ghost use Rattle.go_code.specs.Parts.{part, bind_index};
+ghost use Rattle.go_vm.specs.Open.{topmost};
+ghost use Rattle.go_vm.specs.Flows.{Does, framed, on_locals, on_globals, on_top, parted, in_place};
 
 use crate::arithmetic::between;
 use crate::frames::Frames;
@@ -226,7 +226,7 @@ pub(crate) fn obey_global(
 #[inline(always)]
 fn between_top(frames: &Frames<'_>, operator: Operator) -> Option<Slot>
     ensures { let stack = frames.now.newest.stack in
-        IfSome result (λ slot. (operands operator ≡ 2) × (2 ≤ length stack) × (operate operator (top_of 2 stack) ≡ Gives slot)) }
+        IfSome result (λ slot. (operands operator ≡ 2) × (2 ≤ length stack) × (operate operator (topmost 2 stack) ≡ Gives slot)) }
 {
     let Some([x, y]) = frames.top(2) else {
         return None;
@@ -279,7 +279,7 @@ fn replace_by(
     answer: Operated,
 ) -> Result<Flow, AllocError>
     requires { count ≤ length frames.old.newest.stack }
-    ensures { IfOk result (λ flow. Does (in_place count (told_offset answer)) frames.old world.now flow frames.new world.now) }
+    ensures { IfOk result (λ flow. Does (in_place count (operated_offset answer)) frames.old world.now flow frames.new world.now) }
 {
     match answer {
         Operated::Gives(slot) => {
@@ -309,8 +309,8 @@ fn index_offset(
 /// What the index on top of so many elements of a size leads to.
 fn picked_index(count: usize, size: usize, cells: &[Slot]) -> Indexed
     requires { length cells.now ≡ count * size + 1 }
-    ensures told { part (Pick count size) cells.now ≡ with_index (told_index result) (λ index. Gives (take size (drop (index * size) cells.now))) }
-    ensures within { (index : ℕ) → told_index result ≡ Gives index → index * size + size ≤ count * size }
+    ensures told { part (Pick count size) cells.now ≡ bind_index (operated_index result) (λ index. Gives (take size (drop (index * size) cells.now))) }
+    ensures within { (index : ℕ) → operated_index result ≡ Gives index → index * size + size ≤ count * size }
 {
     index_below(count, &cells[count * size])
 }

@@ -1,10 +1,10 @@
 //! The machine: what one instruction does, and how a start step begins.
-ghost use Rattle.std.specs.Prelude.{◌≡◌, IfOk, Some};
+ghost use Rattle.std.specs.Prelude.{IfOk, Some};
 ghost use Rattle.go_code.specs.declared.image.Start.TheVariants.{Function as Run};
 ghost use Rattle.go_code.specs.declared.instr.CallInstr.TheVariants.{Call, Return};
 ghost use Rattle.go_code.specs.declared.instr.OutputInstr.TheVariants.{Print, Panic};
 ghost use Rattle.go_code.specs.Machine.{act, call_step, output_step, step};
-ghost use Rattle.go_vm.specs.Told.{Does, Opens};
+ghost use Rattle.go_vm.specs.Flows.{Does, Opens};
 
 use crate::frames::Frames;
 use crate::inside::{obey_frame, obey_global, obey_jump, obey_local, obey_operator, obey_part};

@@ -5,8 +5,8 @@ ghost use Rattle.go_code.specs.Lines.{cell_fits};
 ghost use Rattle.go_code.specs.Rows.{first_rows};
 ghost use Rattle.go_code.specs.declared.image.Start.TheVariants.{Setup as Set_up, Function as Run};
 ghost use Rattle.go_vm.specs.Ahead.{Advances};
-ghost use Rattle.go_vm.specs.Answers.{Answers, AnswersFrom};
-ghost use Rattle.go_vm.specs.Told.{state_of, between, rows_of, IsLeft};
+ghost use Rattle.go_vm.specs.Answers.{ImageAnswers, AnswersFrom};
+ghost use Rattle.go_vm.specs.Flows.{state_of, between, machine_rows, IsLeft};
 ghost use Rattle.go_vm.specs.declared.run.RunError.TheVariants.{Memory};
 
 use crate::ahead::obey_ahead;
@@ -36,7 +36,7 @@ pub struct Outcome {
 impl Model for Outcome {
     ghost use Rattle.go_vm.specs.Outcomes as outcomes;
 
-    ghost Value = { outcomes.Outcome };
+    ghost Value = { outcomes.ProgramOutcome };
 
     ghost view = { λ a. record { ending = a.ending; output = a.output.items } };
 }
@@ -177,7 +177,7 @@ fn slots_of(alloc: Global, cells: &[Cell]) -> Result<Option<Vec<Slot>>, AllocErr
 /// The rows that there are from the start: that of the slice without a row, which has nothing. An
 /// `Err` only where memory ran out.
 fn opening_rows(alloc: Global) -> Result<Vec<Vec<Slot>>, AllocError>
-    ensures { IfOk result (λ rows. rows_of rows.items ≡ first_rows) }
+    ensures { IfOk result (λ rows. machine_rows rows.items ≡ first_rows) }
 {
     let mut rows = Vec::new(alloc);
     rows.push(Vec::new(alloc))?;
@@ -207,7 +207,7 @@ fn run_starts(
 /// answered where the image comes to an instruction that makes no sense, `Memory` only where
 /// memory ran out.
 pub fn run(alloc: Global, image: &Image, ticks: u64) -> Result<Outcome, RunError>
-    ensures { Answers image.now ticks result }
+    ensures { ImageAnswers image.now ticks result }
 {
     let Some(globals) = slots_of(alloc, image.globals())? else {
         return Err(RunError::BadCode);

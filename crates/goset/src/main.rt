@@ -1,5 +1,5 @@
-//! `goset`: a replicated workspace with a shared build cache, driven by a script on standard input
-//! and kept between runs where it is asked for; and `goset run`, which runs a Go program.
+//! The program: `goset`, a replicated workspace with a shared build cache, driven by a script on standard
+//! input and kept between runs where it is asked for; and `goset run`, which runs a Go program.
 #![tactic(auto)]
 
 use goset_cli::ends::{FromReader, ToWriter};

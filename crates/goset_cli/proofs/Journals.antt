@@ -7,19 +7,19 @@ use Rattle.std.proofs.lemmas.List.{append_cancel_right, take-append-drop}
 use Rattle.ws_command.specs.Lines.{lines_of}
 use Rattle.ws_command.specs.Commands.{Command, command_of, text_lines, text_of}
 use Rattle.ws_command.specs.Pieces.{closed, without_newline}
-use Rattle.ws_session.specs.World.{World, opening, After, Prints}
+use Rattle.ws_session.specs.World.{World, empty_world, After, Prints}
 use Rattle.goset_cli.specs.Requests.{IsFirst}
 use Rattle.go_text.specs.declared.edition.Edition.{Edition}
 use Rattle.go_text.specs.declared.edition.Edition.TheVariants.{One}
-use Rattle.ws_session.specs.Standing.{StandFor}
+use Rattle.ws_session.specs.Representation.{Represents}
 use Rattle.ws_session.specs.declared.replicas.Replicas.{Replicas}
 use Rattle.ws_keep.specs.Keeping.{EndsFrom, IsClearFrom, LeavesFrom, ReplaysFrom, Restores, is_change, is_refusal, kept_lines}
 use Rattle.ws_keep.proofs.Changing.{dropped_like, kept_text}
 use Rattle.ws_keep.proofs.Parting.{lines_apart}
 use Rattle.ws_keep.proofs.Replaying.{replays_both, replays_command, replays_less, replays_none, restores}
 use Rattle.goset_cli.specs.Ends.{Wrote, WroteSome}
-use Rattle.goset_cli.specs.KeptRuns.{Answered, AnsweredSome, Resumed, ResumedSome}
-use Rattle.goset_cli.specs.Told.{Grows}
+use Rattle.goset_cli.specs.KeptRuns.{ScriptAnswered, AnsweredSome, Resumed, ResumedSome}
+use Rattle.goset_cli.specs.Streams.{GrowsBy}
 use Rattle.goset_cli.proofs.Growth.{grows_not, grows_on}
 use Rattle.goset_cli.proofs.Reaches.{LeadsTo, LinesHaveText, after_line, all_left, all_said, at_first, first_leads, first_part, front_said, prints_line}
 use Rattle.goset_cli.proofs.Texts.{closed_is, closed_line, ended_by}
@@ -91,17 +91,17 @@ keeps_command {command = command} {text = text} {bytes = bytes} is some first wo
 -- What is written follows what was, and leads to a world for which the replicas stand; the journal took what does the same.
 pub record SoFar (first : World) (script rest : List ℕ) (written written' taken taken' : Option (List ℕ)) (replicas : Replicas) : Type 0 where
   pub world : World
-  pub stand : StandFor replicas world
+  pub stand : Represents replicas world
   pub front : List ℕ
-  pub grown : Grows written written' front
+  pub grown : GrowsBy written written' front
   pub leads : LeadsTo first (lines_of script) world (lines_of rest) front
   pub same : List ℕ
   pub replays : ReplaysFrom same first world
-  pub took : Grows taken taken' same
+  pub took : GrowsBy taken taken' same
   pub fits : length same + length rest ≤ length script + (1 - length rest)
 
-pub none_so_far : (edition : Edition) (before : List ℕ) (first : World) (script : List ℕ) (written taken : Option (List ℕ)) (replicas : Replicas) → LeavesFrom (opening edition) before first
-    → StandFor replicas first → SoFar first script script written written taken taken replicas
+pub none_so_far : (edition : Edition) (before : List ℕ) (first : World) (script : List ℕ) (written taken : Option (List ℕ)) (replicas : Replicas) → LeavesFrom (empty_world edition) before first
+    → Represents replicas first → SoFar first script script written written taken taken replicas
 none_so_far edition before first script written taken replicas leaves stand = record {
   world = first;
   stand = stand;
@@ -141,8 +141,8 @@ fits_more same script left bytes (b ∷ rest) kept fits are some short ended =
 -- one more command
 pub more_so_far : {first : World} {script left : List ℕ} {command : Command} {text : Option (List ℕ)} {bytes rest : List ℕ} {written written' taken taken' : Option (List ℕ)} {replicas : Replicas}
     → (so_far : SoFar first script left written written' taken taken' replicas) → IsFirst left command text bytes rest → 0 < length bytes
-    → (next : World) (told : List ℕ) (wrote took : Option (List ℕ)) (replicas' : Replicas) → After command text so_far.world next → Prints command text so_far.world told → StandFor replicas' next
-    → Grows written' wrote told → Grows taken' took (kept_lines command told bytes) → SoFar first script rest written wrote taken took replicas'
+    → (next : World) (told : List ℕ) (wrote took : Option (List ℕ)) (replicas' : Replicas) → After command text so_far.world next → Prints command text so_far.world told → Represents replicas' next
+    → GrowsBy written' wrote told → GrowsBy taken' took (kept_lines command told bytes) → SoFar first script rest written wrote taken took replicas'
 more_so_far {command = command} {bytes = bytes} {written = written} {written' = written'} {taken = taken} {taken' = taken'} so_far is some next told wrote took replicas' after prints stand more kept = record {
   world = next;
   stand = stand;
@@ -157,7 +157,7 @@ more_so_far {command = command} {bytes = bytes} {written = written} {written' = 
 
 -- with no command left all is answered
 pub all_so_far : {first : World} {script rest : List ℕ} {written written' taken taken' : Option (List ℕ)} {replicas : Replicas}
-    → SoFar first script rest written written' taken taken' replicas → rest ≡ [] → Answered first script written written' taken taken' replicas
+    → SoFar first script rest written written' taken taken' replicas → rest ≡ [] → ScriptAnswered first script written written' taken taken' replicas
 all_so_far so_far none = record {
   text = so_far.front;
   says = all_said so_far.leads (ap lines_of none);
@@ -185,7 +185,7 @@ some_so_far some_text so_far = let said = front_said some_text so_far.leads in r
 -- and so is some of what the next command prints behind it
 pub part_so_far : {first : World} {script left : List ℕ} {command : Command} {text : Option (List ℕ)} {bytes rest : List ℕ} {written written' taken taken' : Option (List ℕ)} {replicas : Replicas}
     → LinesHaveText → (so_far : SoFar first script left written written' taken taken' replicas) → IsFirst left command text bytes rest
-    → (told : List ℕ) (n : ℕ) (wrote : Option (List ℕ)) → Prints command text so_far.world told → Grows written' wrote (take n told) → AnsweredSome first script written wrote
+    → (told : List ℕ) (n : ℕ) (wrote : Option (List ℕ)) → Prints command text so_far.world told → GrowsBy written' wrote (take n told) → AnsweredSome first script written wrote
 part_so_far {written = written} {written' = written'} some_text so_far is told n wrote prints more = let said = first_part some_text is so_far.leads told n prints in record {
   text = said.0;
   says = said.1;
@@ -197,28 +197,28 @@ part_so_far {written = written} {written' = written'} some_text so_far is told n
 -- ---- sessions
 
 -- no script leaves a session's first world
-pub nothing_left : (edition : Edition) → LeavesFrom (opening edition) [] (opening edition)
+pub nothing_left : (edition : Edition) → LeavesFrom (empty_world edition) [] (empty_world edition)
 unfolding EndsFrom
 nothing_left edition = refl
 
 pub wrote_from_opening : (edition : Edition) (script : List ℕ) (written written' taken taken' : Option (List ℕ)) (replicas : Replicas)
-    → (IsClearFrom (opening edition) script → Answered (opening edition) script written written' taken taken' replicas) → Wrote edition script written written'
+    → (IsClearFrom (empty_world edition) script → ScriptAnswered (empty_world edition) script written written' taken taken' replicas) → Wrote edition script written written'
 wrote_from_opening edition script written written' taken taken' replicas answered clear = let all = answered clear in (all.text, all.says, all.wrote)
 
 pub some_from_opening : (edition : Edition) (script : List ℕ) (written written' : Option (List ℕ))
-    → (IsClearFrom (opening edition) script → AnsweredSome (opening edition) script written written') → WroteSome edition script written written'
+    → (IsClearFrom (empty_world edition) script → AnsweredSome (empty_world edition) script written written') → WroteSome edition script written written'
 some_from_opening edition script written written' answered clear = let some = answered clear in (some.front, (some.text, some.says, some.begins), some.wrote)
 
 -- ---- runs behind what is kept
 
 -- the text of a script behind what is kept was written, and what a journal took of both restores the world that is left
 pub resumed : (kept script start first new : List ℕ) (told told' written written' : Option (List ℕ)) (replicas replicas' : Replicas) → start ≡ []
-    → (before : Answered (opening One) kept told told' (Some start) (Some first) replicas) → Answered before.last script written written' (Some first) (Some new) replicas'
+    → (before : ScriptAnswered (empty_world One) kept told told' (Some start) (Some first) replicas) → ScriptAnswered before.last script written written' (Some first) (Some new) replicas'
     → Resumed kept script written written' new
 resumed kept script start first new told told' written written' replicas replicas' empty before behind =
     let taken : first ≡ before.same = before.took ∙ ap (λ (s : List ℕ). s ++ before.same) empty in
     let both : new ≡ before.same ++ behind.same = behind.took ∙ ap (λ (s : List ℕ). s ++ behind.same) taken in
-    let does = replays_both before.same behind.same (opening One) before.last behind.last before.replays behind.replays in
+    let does = replays_both before.same behind.same (empty_world One) before.last behind.last before.replays behind.replays in
     record {
       text = behind.text;
       continues = (before.last, before.leaves, behind.says);
@@ -227,7 +227,7 @@ resumed kept script start first new told told' written written' replicas replica
     }
 
 pub resumed_fits : (kept script start first new : List ℕ) (told told' written written' : Option (List ℕ)) (replicas replicas' : Replicas) → start ≡ []
-    → (before : Answered (opening One) kept told told' (Some start) (Some first) replicas) → Answered before.last script written written' (Some first) (Some new) replicas'
+    → (before : ScriptAnswered (empty_world One) kept told told' (Some start) (Some first) replicas) → ScriptAnswered before.last script written written' (Some first) (Some new) replicas'
     → length new ≤ length kept + length script + 2
 resumed_fits kept script start first new told told' written written' replicas replicas' empty before behind =
     let first_fits = before.fits in
@@ -235,5 +235,5 @@ resumed_fits kept script start first new told told' written written' replicas re
     omega (arith, ap length empty, ap length before.took, ap length behind.took, length-append start before.same, length-append first behind.same, first_fits, more_fits)
 
 pub resumed_some : (kept script start first : List ℕ) (told told' written written' : Option (List ℕ)) (replicas : Replicas)
-    → (before : Answered (opening One) kept told told' (Some start) (Some first) replicas) → AnsweredSome before.last script written written' → ResumedSome kept script written written'
+    → (before : ScriptAnswered (empty_world One) kept told told' (Some start) (Some first) replicas) → AnsweredSome before.last script written written' → ResumedSome kept script written written'
 resumed_some kept script start first told told' written written' replicas before behind = inr (behind.text, behind.front, (before.last, before.leaves, behind.says), behind.begins, behind.wrote)

@@ -3,14 +3,14 @@ use Rattle.std.proofs.Common.{Vec, Global, ◌≡◌, ℕ, ◌≤◌, ◌+◌, L
 use Rattle.std.specs.Prelude.{IfErr}
 use Rattle.go_text.specs.declared.edition.Edition.{Edition}
 use Rattle.ws_keep.specs.Keeping.{Continues, IsClearBehind}
-use Rattle.ws_keep.specs.Stored.{Becomes, Holds}
+use Rattle.ws_keep.specs.Stored.{StoreBecomes, StoreHolds}
 use Rattle.ws_keep.specs.declared.store.StoreError.{StoreError}
 use Rattle.goset_cli.specs.Answers.{unanswered, unread}
-use Rattle.goset_cli.specs.KeptRuns.{Begins, KeptNothing, KeptRun, NotLoaded, Resumed, ResumedSome, WentOn, opened}
-use Rattle.goset_cli.specs.Failures.{unwritten}
+use Rattle.goset_cli.specs.KeptRuns.{Begins, KeptNothing, KeptRun, NotLoaded, Resumed, ResumedSome, WentOn, with_edition_line}
+use Rattle.goset_cli.specs.Failures.{unwritten_count}
 use Rattle.goset_cli.specs.KeptStatuses.{kept_reads, kept_writes}
 use Rattle.goset_cli.specs.Reading.{GaveAll, NotRead, failures_of, limit}
-use Rattle.goset_cli.specs.Told.{Told, Grows}
+use Rattle.goset_cli.specs.Streams.{ReadResult, GrowsBy}
 use Rattle.goset_cli.specs.declared.keeping.KeepError.{KeepError}
 use Rattle.goset_cli.specs.declared.keeping.KeepError.TheVariants.{Session, Store, Full, Another}
 use Rattle.goset_cli.specs.declared.reading.ReadError.{ReadError}
@@ -21,13 +21,13 @@ use Rattle.goset_cli.specs.declared.running.SessionError.TheVariants.{Memory, Re
 use Rattle.goset_cli.proofs.Outcomes.{stays}
 
 -- what a store holds becomes the same bytes
-pub becomes_same : (store : Option (List ℕ)) (kept new : List ℕ) → new ≡ kept → Holds store kept → Becomes store store new
+pub becomes_same : (store : Option (List ℕ)) (kept new : List ℕ) → new ≡ kept → StoreHolds store kept → StoreBecomes store store new
 becomes_same None kept new e h = tt
 becomes_same (Some its) kept new e h = h ∙ sym e
 
 -- ---- nothing was run
 
-module _ {A : Type 0} (edition : Option Edition) (expected : Option (List ℕ)) (r : Result A KeepError) (store : Option (List ℕ)) (told told' : Option (List Told)) (written : Option (List ℕ)) where
+module _ {A : Type 0} (edition : Option Edition) (expected : Option (List ℕ)) (r : Result A KeepError) (store : Option (List ℕ)) (told told' : Option (List ReadResult)) (written : Option (List ℕ)) where
   -- what is known where nothing was run
   abbrev pub Unbegun : Type 0
   Unbegun = IfErr r (λ e. KeptNothing edition expected e store told told' written written)
@@ -54,13 +54,13 @@ module _ {A : Type 0} (edition : Option Edition) (expected : Option (List ℕ)) 
 
 -- ---- how a run ends
 
-module _ {A : Type 0} (edition : Option Edition) (expected : Option (List ℕ)) (r : Result A KeepError) (store store' : Option (List ℕ)) (told told' : Option (List Told)) (written written' : Option (List ℕ)) where
+module _ {A : Type 0} (edition : Option Edition) (expected : Option (List ℕ)) (r : Result A KeepError) (store store' : Option (List ℕ)) (told told' : Option (List ReadResult)) (written written' : Option (List ℕ)) where
   pub kept_unbegun : (error : KeepError) → r ≡ Err error → store' ≡ store → KeptNothing edition expected error store told told' written written' → KeptRun edition expected r store store' told told' written written'
   kept_unbegun error e same h = rw e (same, h)
 
   -- what was run is the script, behind what is kept
-  module _ (kept lines script ran_kept ran : List ℕ) (begins : Begins expected store told told' kept script) (is : lines ≡ opened edition script) (same_kept : ran_kept ≡ kept) (same : ran ≡ lines) where
-    meant : (P : List ℕ → List ℕ → Type 0) → P ran_kept ran → P kept (opened edition script)
+  module _ (kept lines script ran_kept ran : List ℕ) (begins : Begins expected store told told' kept script) (is : lines ≡ with_edition_line edition script) (same_kept : ran_kept ≡ kept) (same : ran ≡ lines) where
+    meant : (P : List ℕ → List ℕ → Type 0) → P ran_kept ran → P kept (with_edition_line edition script)
     meant P h = subst (λ (s : List ℕ). P kept s) is (subst (λ (s : List ℕ). P kept s) same (subst (λ (k : List ℕ). P k ran) same_kept h))
 
     -- the script's text wasn't written whole
@@ -70,17 +70,17 @@ module _ {A : Type 0} (edition : Option Edition) (expected : Option (List ℕ)) 
     kept_unanswered answers.Write e still some = rw e (still, (kept, script, begins, meant (λ k s. IsClearBehind k s → ResumedSome k s written written') some))
 
     said_all : (new : List ℕ) → (IsClearBehind ran_kept ran → Resumed ran_kept ran written written' new)
-        → IsClearBehind ran_kept ran → (text : List ℕ) × Continues ran_kept ran text × Grows written written' text
+        → IsClearBehind ran_kept ran → (text : List ℕ) × Continues ran_kept ran text × GrowsBy written written' text
     said_all new all clear = let resumed = all clear in (resumed.text, resumed.continues, resumed.wrote)
 
     -- the store failed behind all of it
     pub kept_unreplaced : (failure : StoreError) (new : List ℕ) → r ≡ Err (Store failure) → store' ≡ store
         → (IsClearBehind ran_kept ran → Resumed ran_kept ran written written' new) → KeptRun edition expected r store store' told told' written written'
     kept_unreplaced failure new e still all =
-        rw e (still, inr (kept, script, begins, meant (λ k s. IsClearBehind k s → (text : List ℕ) × Continues k s text × Grows written written' text) (said_all new all)))
+        rw e (still, inr (kept, script, begins, meant (λ k s. IsClearBehind k s → (text : List ℕ) × Continues k s text × GrowsBy written written' text) (said_all new all)))
 
 went_on : (kept script new : List ℕ) (store store' written written' : Option (List ℕ)) → (IsClearBehind kept script → Resumed kept script written written' new)
-    → (IsClearBehind kept script → length new ≤ length kept + length script + 2) → length kept + length script + 2 ≤ limit → Becomes store store' new
+    → (IsClearBehind kept script → length new ≤ length kept + length script + 2) → length kept + length script + 2 ≤ limit → StoreBecomes store store' new
     → IsClearBehind kept script → WentOn kept script store store' written written'
 went_on kept script new store store' written written' all short fits becomes clear = record {
   new = new;
@@ -90,9 +90,9 @@ went_on kept script new store store' written written' all short fits becomes cle
 }
 
 -- all was written and kept
-pub kept_all : (edition : Option Edition) (expected store store' : Option (List ℕ)) (told told' : Option (List Told)) (written written' : Option (List ℕ)) (kept lines script ran_kept ran new : List ℕ)
-    → Begins expected store told told' kept script → lines ≡ opened edition script → ran_kept ≡ kept → ran ≡ lines → (IsClearBehind ran_kept ran → Resumed ran_kept ran written written' new)
-    → (IsClearBehind ran_kept ran → length new ≤ length ran_kept + length ran + 2) → length kept + length lines + 2 ≤ limit → Becomes store store' new
+pub kept_all : (edition : Option Edition) (expected store store' : Option (List ℕ)) (told told' : Option (List ReadResult)) (written written' : Option (List ℕ)) (kept lines script ran_kept ran new : List ℕ)
+    → Begins expected store told told' kept script → lines ≡ with_edition_line edition script → ran_kept ≡ kept → ran ≡ lines → (IsClearBehind ran_kept ran → Resumed ran_kept ran written written' new)
+    → (IsClearBehind ran_kept ran → length new ≤ length ran_kept + length ran + 2) → length kept + length lines + 2 ≤ limit → StoreBecomes store store' new
     → KeptRun {A = Unit {0}} edition expected (Ok tt) store store' told told' written written'
 kept_all edition expected store store' told told' written written' kept lines script ran_kept ran new begins is same_kept same all short fits becomes =
     let fit : length ran_kept + length ran + 2 ≤ limit = rw (same_kept, same) fits in
@@ -106,11 +106,11 @@ kept_all edition expected store store' told told' written written' kept lines sc
     )
 
 -- what a store holds becomes the new bytes, if it held what is kept
-pub kept_becomes : (store found store' : Option (List ℕ)) (kept new ran_kept ran_new : List ℕ) → found ≡ store → ran_kept ≡ kept → ran_new ≡ new → Holds store kept
-    → (Holds found ran_kept → Becomes found store' ran_new) → Becomes store store' new
+pub kept_becomes : (store found store' : Option (List ℕ)) (kept new ran_kept ran_new : List ℕ) → found ≡ store → ran_kept ≡ kept → ran_new ≡ new → StoreHolds store kept
+    → (StoreHolds found ran_kept → StoreBecomes found store' ran_new) → StoreBecomes store store' new
 kept_becomes store found store' kept new ran_kept ran_new still same_kept same holds becomes =
-    let held : Holds found ran_kept = subst (λ (k : List ℕ). Holds found k) (sym same_kept) (subst (λ (s : Option (List ℕ)). Holds s kept) (sym still) holds) in
-    subst (λ (n : List ℕ). Becomes store store' n) same (subst (λ (s : Option (List ℕ)). Becomes s store' ran_new) still (becomes held))
+    let held : StoreHolds found ran_kept = subst (λ (k : List ℕ). StoreHolds found k) (sym same_kept) (subst (λ (s : Option (List ℕ)). StoreHolds s kept) (sym still) holds) in
+    subst (λ (n : List ℕ). StoreBecomes store store' n) same (subst (λ (s : Option (List ℕ)). StoreBecomes s store' ran_new) still (becomes held))
 
 -- ---- how many failures are counted
 
@@ -163,7 +163,7 @@ module _ {A : Type 0} (r : Result A KeepError) where
   unanswered_reads answers.Memory e = rw e refl
   unanswered_reads answers.Write e = rw e refl
 
-  pub unanswered_writes : (refusal : AnswerError) (n m : ℕ) → r ≡ Err (Session (unanswered refusal)) → n ≡ m + unwritten {A = Vec ℕ Global} (Err refusal) → n ≡ m + kept_writes r
+  pub unanswered_writes : (refusal : AnswerError) (n m : ℕ) → r ≡ Err (Session (unanswered refusal)) → n ≡ m + unwritten_count {A = Vec ℕ Global} (Err refusal) → n ≡ m + kept_writes r
   unanswered_writes answers.Memory n m e h = rw e h
   unanswered_writes answers.Write n m e h = rw e h
 

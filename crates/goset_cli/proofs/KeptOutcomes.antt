@@ -3,12 +3,12 @@ use Rattle.std.proofs.Common.{◌≡◌, ℕ, List, Option, Result, Err, refl, s
 use Rattle.clap.specs.Walk.{Text}
 use Rattle.clap.specs.declared.error.kind.ErrorKind.{ErrorKind}
 use Rattle.go_text.specs.declared.edition.Edition.{Edition}
-use Rattle.goset_cli.specs.CommandLine.{expected_of, keep_edition_of, keep_name_of}
+use Rattle.goset_cli.specs.CommandLine.{expected_digest, keep_edition_of, keep_name_of}
 use Rattle.goset_cli.specs.Failures.{failed_writes}
 use Rattle.goset_cli.specs.KeptRuns.{KeptBy, KeptRun}
 use Rattle.goset_cli.specs.KeptStatuses.{error_writes}
 use Rattle.goset_cli.specs.Statuses.{FailsByKind}
-use Rattle.goset_cli.specs.Told.{Told}
+use Rattle.goset_cli.specs.Streams.{ReadResult}
 use Rattle.goset_cli.specs.declared.keeping.KeepError.{KeepError}
 use Rattle.goset_cli.specs.declared.keeping.KeepError.TheVariants.{Session}
 use Rattle.goset_cli.specs.declared.running.SessionError.{SessionError}
@@ -21,15 +21,15 @@ pub same_writes : (k : ErrorKind) (failure : SessionError) → FailsByKind k fai
 same_writes k failure fails = writes_as Status (Unit {0}) failure
 
 -- a run that had no memory to read its words kept nothing, and told and wrote nothing
-pub memory_kept : {A : Type 0} (words : List Text) (ended : Result A KeepError) (store : List ℕ → Option (List ℕ)) (told : Option (List Told)) (written : Option (List ℕ)) → ended ≡ Err (Session Memory)
+pub memory_kept : {A : Type 0} (words : List Text) (ended : Result A KeepError) (store : List ℕ → Option (List ℕ)) (told : Option (List ReadResult)) (written : Option (List ℕ)) → ended ≡ Err (Session Memory)
     → KeptBy words ended store store told told written written
 memory_kept words ended store told written memory = λ none. rw memory (refl, inl (stays written))
 
 -- a run by options is the one that the words ask for
 pub kept_by : {A : Type 0} (words : List Text) (edition : Option Edition) (expected : Option (List ℕ)) (name : List ℕ) (ended : Result A KeepError) (store store' : List ℕ → Option (List ℕ))
-    (told told' : Option (List Told)) (written written' : Option (List ℕ)) → edition ≡ keep_edition_of words → expected ≡ expected_of words → name ≡ keep_name_of words
+    (told told' : Option (List ReadResult)) (written written' : Option (List ℕ)) → edition ≡ keep_edition_of words → expected ≡ expected_digest words → name ≡ keep_name_of words
     → KeptRun edition expected ended (store name) (store' name) told told' written written' → KeptBy words ended store store' told told' written written'
 kept_by words edition expected name ended store store' told told' written written' same_edition same_expected same_name run = λ none.
-    subst (λ (n : List ℕ). KeptRun (keep_edition_of words) (expected_of words) ended (store n) (store' n) told told' written written') same_name
+    subst (λ (n : List ℕ). KeptRun (keep_edition_of words) (expected_digest words) ended (store n) (store' n) told told' written written') same_name
     (subst (λ (x : Option (List ℕ)). KeptRun (keep_edition_of words) x ended (store name) (store' name) told told' written written') same_expected
     (subst (λ (e : Option Edition). KeptRun e expected ended (store name) (store' name) told told' written written') same_edition run))

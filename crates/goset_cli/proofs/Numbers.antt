@@ -25,7 +25,7 @@ use Rattle.clap.specs.declared.parser.matches.MatchedArg.{MatchedArg}
 use Rattle.clap.proofs.CallerLemmas.{entry_by_id, same_rules_by_id}
 use Rattle.clap.proofs.CallerReads.{signed_reads}
 use Rattle.clap.proofs.WalkLemmas.{one_text-rows, raw_values-rows}
-use Rattle.goset_cli.specs.CommandLine.{all_ticks, goset, keep, named_number, number_of, run}
+use Rattle.goset_cli.specs.CommandLine.{all_ticks, goset, keep, named_number, option_number, run_app}
 use Rattle.goset_cli.specs.CommandLine.{named_text as named_text_of}
 
 -- ---- a text that is read of an entry passed its argument's parser
@@ -156,7 +156,7 @@ keep_edition_option = record {
     alone (suc (suc (suc zero))) d lt same = cc
     alone (suc (suc (suc (suc j)))) d lt same = absurd (omega (arith, lt))
 
-pub ticks_option : IsOption run.top.rules (codes "ticks") (parsers.Unsigned 0 all_ticks) 0
+pub ticks_option : IsOption run_app.top.rules (codes "ticks") (parsers.Unsigned 0 all_ticks) 0
 ticks_option = record {
   below = omega arith;
   parser_is = λ d. refl;
@@ -167,14 +167,14 @@ ticks_option = record {
   some = λ e. let bad : 5 ≡ 0 = ap length e in absurd (omega (arith, bad));
 }
   where
-    alone : (j : ℕ) (d : Rule) → j < length run.top.rules → bytes_eq (slice_index_or run.top.rules j d).id (codes "ticks") ≡ true → j ≡ 0
+    alone : (j : ℕ) (d : Rule) → j < length run_app.top.rules → bytes_eq (slice_index_or run_app.top.rules j d).id (codes "ticks") ≡ true → j ≡ 0
     alone zero d lt same = refl
     alone (suc zero) d lt same = cc
     alone (suc (suc zero)) d lt same = cc
     alone (suc (suc (suc zero))) d lt same = cc
     alone (suc (suc (suc (suc j)))) d lt same = absurd (omega (arith, lt))
 
-pub run_edition_option : IsOption run.top.rules (codes "edition") (parsers.Signed (pos 1) (pos 2)) 1
+pub run_edition_option : IsOption run_app.top.rules (codes "edition") (parsers.Signed (pos 1) (pos 2)) 1
 run_edition_option = record {
   below = omega arith;
   parser_is = λ d. refl;
@@ -185,14 +185,14 @@ run_edition_option = record {
   some = λ e. let bad : 7 ≡ 0 = ap length e in absurd (omega (arith, bad));
 }
   where
-    alone : (j : ℕ) (d : Rule) → j < length run.top.rules → bytes_eq (slice_index_or run.top.rules j d).id (codes "edition") ≡ true → j ≡ 1
+    alone : (j : ℕ) (d : Rule) → j < length run_app.top.rules → bytes_eq (slice_index_or run_app.top.rules j d).id (codes "edition") ≡ true → j ≡ 1
     alone zero d lt same = cc
     alone (suc zero) d lt same = refl
     alone (suc (suc zero)) d lt same = cc
     alone (suc (suc (suc zero))) d lt same = cc
     alone (suc (suc (suc (suc j)))) d lt same = absurd (omega (arith, lt))
 
-pub plain_flag : IsOption run.top.rules (codes "plain") parsers.Bool 2
+pub plain_flag : IsOption run_app.top.rules (codes "plain") parsers.Bool 2
 plain_flag = record {
   below = omega arith;
   parser_is = λ d. refl;
@@ -203,7 +203,7 @@ plain_flag = record {
   some = λ e. let bad : 5 ≡ 0 = ap length e in absurd (omega (arith, bad));
 }
   where
-    alone : (j : ℕ) (d : Rule) → j < length run.top.rules → bytes_eq (slice_index_or run.top.rules j d).id (codes "plain") ≡ true → j ≡ 2
+    alone : (j : ℕ) (d : Rule) → j < length run_app.top.rules → bytes_eq (slice_index_or run_app.top.rules j d).id (codes "plain") ≡ true → j ≡ 2
     alone zero d lt same = cc
     alone (suc zero) d lt same = cc
     alone (suc (suc zero)) d lt same = refl
@@ -275,7 +275,7 @@ pub number_read : (app : App) (name : List ℕ) (most place : ℕ) → IsOption 
     → (one_text (found_of m) name ≡ None → r ≡ None)
     → ((t : List ℕ) → one_text (found_of m) name ≡ Some t → ReadsOne G t r)
     → ((u : List ℕ) (x : Result ℕ E) → G u x → ParsesUnsigned 8 10 u x)
-    → (unwrap_or r none ≡ number_of app name none words) × (1 ≤ unwrap_or r none) × (unwrap_or r none ≤ most)
+    → (unwrap_or r none ≡ option_number app name none words) × (1 ≤ unwrap_or r none) × (unwrap_or r none ≤ most)
 number_read app name most place is_option plain_app simple none least few fits old m words p app_is plain has E G r absent present reads =
     go (one_text (found_of m) name) refl
   where
@@ -289,16 +289,16 @@ number_read app name most place is_option plain_app simple none least few fits o
     is = text_is app name parser place is_option plain_app simple old m p app_is words has
 
     go : (o : Option (List ℕ)) → one_text (found_of m) name ≡ o
-        → (unwrap_or r none ≡ number_of app name none words) × (1 ≤ unwrap_or r none) × (unwrap_or r none ≤ most)
+        → (unwrap_or r none ≡ option_number app name none words) × (1 ≤ unwrap_or r none) × (unwrap_or r none ≤ most)
     go None e =
-        let named : number_of app name none words ≡ none = ap number (is ∙ e) in
+        let named : option_number app name none words ≡ none = ap number (is ∙ e) in
         let read : unwrap_or r none ≡ none = ap (λ (o : Option ℕ). unwrap_or o none) (absent e) in
         (read ∙ sym named, rw read least, rw read few)
     go (Some t) e =
         let got = named_text app name parser place is_option plain_app simple old m p app_is plain t e in
         let n = signed_reads E G 8 1 most got.0 r (subst (λ (u : List ℕ). ReadsOne G u r) got.1 (present t e)) reads fits got.2.1 in
         let value = reads t (Ok n.0) (subst (λ (o : Option ℕ). ReadsOne G t o) n.1 (present t e)) in
-        let named : number_of app name none words ≡ digits_value 10 (without_leading_plus t) = ap number (is ∙ e) in
+        let named : option_number app name none words ≡ digits_value 10 (without_leading_plus t) = ap number (is ∙ e) in
         let read : unwrap_or r none ≡ n.0 = ap (λ (o : Option ℕ). unwrap_or o none) n.1 in
         (read ∙ (value.1 ∙ sym named), rw read n.2, rw read n.3)
 
@@ -337,7 +337,7 @@ pub count_read : (app : App) (name : List ℕ) (place : ℕ) → IsOption app.to
     → (one_text (found_of m) name ≡ None → r ≡ None)
     → ((t : List ℕ) → one_text (found_of m) name ≡ Some t → ReadsOne G t r)
     → ((u : List ℕ) (x : Result ℕ E) → G u x → ParsesUnsigned 64 10 u x)
-    → unwrap_or r none ≡ number_of app name none words
+    → unwrap_or r none ≡ option_number app name none words
 count_read app name place is_option plain_app simple none old m words p app_is plain has E G r absent present reads =
     go (one_text (found_of m) name) refl
   where
@@ -356,13 +356,13 @@ count_read app name place is_option plain_app simple none old m words p app_is p
         let passed = subst (λ (w : List ℕ). Accepts ignore_case parser w) (sym same) accepted in
         absurd (reads t (Err h.0) h.1 (passed.0, passed.1))
 
-    go : (o : Option (List ℕ)) → one_text (found_of m) name ≡ o → unwrap_or r none ≡ number_of app name none words
+    go : (o : Option (List ℕ)) → one_text (found_of m) name ≡ o → unwrap_or r none ≡ option_number app name none words
     go None e =
-        let named : number_of app name none words ≡ none = ap number (is ∙ e) in
+        let named : option_number app name none words ≡ none = ap number (is ∙ e) in
         ap (λ (o : Option ℕ). unwrap_or o none) (absent e) ∙ sym named
     go (Some t) e =
         let got = named_text app name parser place is_option plain_app simple old m p app_is plain t e in
-        let named : number_of app name none words ≡ digits_value 10 (without_leading_plus t) = ap number (is ∙ e) in
+        let named : option_number app name none words ≡ digits_value 10 (without_leading_plus t) = ap number (is ∙ e) in
         value t got.0 got.2.0 got.1 got.2.1 r (present t e) ∙ sym named
 
 -- ---- a flag

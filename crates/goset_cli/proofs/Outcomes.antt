@@ -9,7 +9,7 @@ use Rattle.clap.specs.declared.error.kind.ErrorKind.TheVariants.{OutOfMemory}
 use Rattle.go_text.specs.declared.edition.Edition.{Edition}
 use Rattle.goset_cli.specs.Ends.{Session}
 use Rattle.goset_cli.specs.Failures.{failed_reads, failed_writes}
-use Rattle.goset_cli.specs.Told.{Told, Grows}
+use Rattle.goset_cli.specs.Streams.{ReadResult, GrowsBy}
 use Rattle.goset_cli.specs.declared.running.SessionError.{SessionError}
 use Rattle.goset_cli.specs.declared.running.SessionError.TheVariants.{Memory, Read, Write, TooLong}
 use Rattle.goset_cli.specs.Statuses.{FailsByKind, FailsUnasked, asks_text, is_asked, is_wrong}
@@ -74,14 +74,14 @@ error_memory kinds e h none = elim h [
 ]
 
 -- what grows by nothing
-pub stays : {A : Type 0} (known : Option (List A)) → Grows known known []
+pub stays : {A : Type 0} (known : Option (List A)) → GrowsBy known known []
 stays None = tt
 stays (Some xs) = sym (append-nil xs)
 
 -- ---- sessions
 
 -- what a session says of its failure, whatever it answers else
-pub stopped_as : (A B : Type 0) (edition : Edition) (failure : SessionError) (told told' : Option (List Told)) (written written' : Option (List ℕ))
+pub stopped_as : (A B : Type 0) (edition : Edition) (failure : SessionError) (told told' : Option (List ReadResult)) (written written' : Option (List ℕ))
     → Session {A = A} edition (Err failure) told told' written written' → Session {A = B} edition (Err failure) told told' written written'
 stopped_as A B edition Memory told told' written written' session = session
 stopped_as A B edition Read told told' written written' session = session
@@ -101,13 +101,13 @@ writes_as A B Write = refl
 writes_as A B TooLong = refl
 
 -- a session is of one edition, which has two names
-pub session_in : {A : Type 0} (edition named : Edition) (ended : Result A SessionError) (told told' : Option (List Told)) (written written' : Option (List ℕ)) → edition ≡ named
+pub session_in : {A : Type 0} (edition named : Edition) (ended : Result A SessionError) (told told' : Option (List ReadResult)) (written written' : Option (List ℕ)) → edition ≡ named
     → Session edition ended told told' written written' → Session named ended told told' written written'
 session_in edition named ended told told' written written' same session =
     subst (λ (e : Edition). Session e ended told told' written written') same session
 
 -- one that had no memory to read its words told and wrote nothing
-pub memory_session : {A : Type 0} (edition : Edition) (ended : Result A SessionError) (told : Option (List Told)) (written : Option (List ℕ)) → ended ≡ Err Memory
+pub memory_session : {A : Type 0} (edition : Edition) (ended : Result A SessionError) (told : Option (List ReadResult)) (written : Option (List ℕ)) → ended ≡ Err Memory
     → Session edition ended told told written written
 memory_session edition ended told written memory = rw memory (inl (([], stays told), stays written))
 

@@ -3,7 +3,7 @@ use Rattle.std.proofs.Common.{◌≡◌, ℕ, zero, suc, List, [], ◌∷◌, �
 use Rattle.std.proofs.lemmas.List.{take-append-drop}
 use Rattle.go_text.specs.declared.edition.Edition.{Edition}
 use Rattle.ws_command.specs.Commands.{Command, command_of, text_of, text_lines}
-use Rattle.ws_session.specs.World.{World, opening, After, Prints}
+use Rattle.ws_session.specs.World.{World, empty_world, After, Prints}
 use Rattle.ws_command.specs.Lines.{lines_of}
 use Rattle.goset_cli.specs.Requests.{IsFirst}
 use Rattle.ws_session.specs.Text.{TextFrom, IsBeginning, ReachedFrom}
@@ -61,12 +61,12 @@ filed_lines zero (line ∷ lines) world last (next, after, h) filed =
     filed_lines (text_lines (command_of line)) lines next last h (filed_after (command_of line) (text_of (text_lines (command_of line)) lines) world next after filed)
 
 -- nothing is said before the first command
-pub at_first : (edition : Edition) (before : List ℕ) (world : World) (all : List (List ℕ)) → LeavesFrom (opening edition) before world → LeadsTo world all world all []
+pub at_first : (edition : Edition) (before : List ℕ) (world : World) (all : List (List ℕ)) → LeavesFrom (empty_world edition) before world → LeadsTo world all world all []
 at_first edition before world all leaves = record {
   text = λ later h. h;
   reached = λ other h. h;
   ends = λ last h. h;
-  filed = filed_lines 0 (lines_of before) (opening edition) world leaves tt;
+  filed = filed_lines 0 (lines_of before) (empty_world edition) world leaves tt;
 }
 
 text_line : (line : List ℕ) (lines : List (List ℕ)) (world next : World) (told later : List ℕ) →

@@ -5,7 +5,7 @@ use Rattle.go_text.specs.declared.edition.Edition.{Edition}
 use Rattle.goset_cli.specs.declared.running.AnswerError.{AnswerError}
 use Rattle.goset_cli.specs.declared.running.AnswerError.TheVariants.{Memory, Write}
 use Rattle.goset_cli.specs.declared.running.SessionError.{SessionError}
-use Rattle.goset_cli.specs.Told.{Told}
+use Rattle.goset_cli.specs.Streams.{ReadResult}
 use Rattle.goset_cli.specs.Reading.{GaveAll}
 use Rattle.goset_cli.specs.Ends.{WroteSome, Session}
 use Rattle.goset_cli.specs.Answers.{unanswered}
@@ -16,7 +16,7 @@ on_refusal (Ok a) p = tt
 on_refusal (Err e) p = p
 
 -- where answers weren't written, the script was read and a beginning was written
-pub session_unanswered : {A : Type 0} (edition : Edition) (refusal : AnswerError) (r : Result A SessionError) (told told' : Option (List Told)) (written written' : Option (List ℕ)) (script : List ℕ) →
+pub session_unanswered : {A : Type 0} (edition : Edition) (refusal : AnswerError) (r : Result A SessionError) (told told' : Option (List ReadResult)) (written written' : Option (List ℕ)) (script : List ℕ) →
     r ≡ Err (unanswered refusal) → GaveAll told told' script → WroteSome edition script written written' → Session edition r told told' written written'
 session_unanswered edition Memory r told told' written written' script e gave wrote = rw e (inr (script, gave, wrote))
 session_unanswered edition Write r told told' written written' script e gave wrote = rw e (script, gave, wrote)

@@ -4,8 +4,8 @@ use Rattle.std.specs.Prelude.{◌⊎◌}
 use Rattle.clap.specs.Walk.{Text}
 use Rattle.go_text.specs.declared.edition.Edition.{Edition}
 use Rattle.goset_cli.specs.CommandLine.{run_edition_of, ticks_of, wants_plain}
-use Rattle.goset_cli.specs.Runs.{IsRunStatus, Ran, RanBy, TellsOf, run_code_of}
-use Rattle.goset_cli.specs.Statuses.{Tells, complaint}
+use Rattle.goset_cli.specs.Runs.{IsRunStatus, FilesRun, FilesRunBy, WritesFailure, run_code_of}
+use Rattle.goset_cli.specs.Statuses.{WritesOut, error_line}
 use Rattle.goset_cli.specs.declared.failure.Failure.{Failure}
 use Rattle.goset_cli.specs.declared.failure.Failure.TheVariants as failures
 use Rattle.goset_cli.specs.declared.running.SessionError.{SessionError}
@@ -46,15 +46,15 @@ not_misused status known is = elim known [
 
 -- what was run is what the words name
 pub ran_by : (words : List Text) (edition : Edition) (ticks : ℕ) (is_plain : Bool) (written written' : Option (List ℕ)) (status : ℕ)
-    → edition ≡ run_edition_of words → ticks ≡ ticks_of words → is_plain ≡ wants_plain words → Ran edition ticks is_plain written written' status → RanBy words written written' status
+    → edition ≡ run_edition_of words → ticks ≡ ticks_of words → is_plain ≡ wants_plain words → FilesRun edition ticks is_plain written written' status → FilesRunBy words written written' status
 ran_by words edition ticks is_plain written written' status its_edition its_ticks its_form ran =
-    subst (λ (form : Bool). Ran (run_edition_of words) (ticks_of words) form written written' status) its_form
-    (subst (λ (number : ℕ). Ran (run_edition_of words) number is_plain written written' status) its_ticks
-    (subst (λ (named : Edition). Ran named ticks is_plain written written' status) its_edition ran))
+    subst (λ (form : Bool). FilesRun (run_edition_of words) (ticks_of words) form written written' status) its_form
+    (subst (λ (number : ℕ). FilesRun (run_edition_of words) number is_plain written written' status) its_ticks
+    (subst (λ (named : Edition). FilesRun named ticks is_plain written written' status) its_edition ran))
 
 -- what words that ask for a text fail by is a failure of a run
 pub told_failure : {T : Type 0} (failed failed' : ℕ) (written written' : Option (List ℕ)) (failure : SessionError) → (failure ≡ Memory) ⊎ ((failure ≡ Write) × T)
-    → Tells (complaint failure) failed failed' written written' → (it : Failure) × TellsOf it failed failed' written written'
+    → WritesOut (error_line failure) failed failed' written written' → (it : Failure) × WritesFailure it failed failed' written written'
 told_failure failed failed' written written' Memory why told = (failures.Memory, inl told)
 told_failure failed failed' written written' Write why told = (failures.Write, inl told)
 told_failure failed failed' written written' Read why told = elim why [

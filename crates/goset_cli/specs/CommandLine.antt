@@ -16,35 +16,35 @@ use Rattle.go_text.specs.declared.edition.Edition.{Edition}
 use Rattle.go_text.specs.declared.edition.Edition.TheVariants.{One, Two}
 
 -- `run` is the first of words
-abbrev pub is_run : List Text → Bool
-is_run [] = false
-is_run (word ∷ words) = bytes_eq word (codes "run")
+abbrev pub is_run_word : List Text → Bool
+is_run_word [] = false
+is_run_word (word ∷ words) = bytes_eq word (codes "run")
 
 -- the words from `run` on, where that is the first behind the program's name: they ask for files to be run, and others for a session
 abbrev pub words_of_run : List Text → Option (List Text)
 words_of_run [] = None
-words_of_run (program ∷ words) = if is_run words then Some words else None
+words_of_run (program ∷ words) = if is_run_word words then Some words else None
 
 -- ---- options
 
 -- an option --NAME with one value that this parser lets through
-abbrev pub valued : Text → ValueParser → Rule
-valued name parser = record (new_rule name) {
+abbrev pub value_option : Text → ValueParser → Rule
+value_option name parser = record (new_rule name) {
   long = Some name;
   parser = Some parser;
   value_names = 1;
 }
 
 -- an option --NAME with a number from 1 on
-abbrev pub numbered : Text → ℕ → Rule
-numbered name most = valued name (parsers.Signed (pos 1) (pos most))
+abbrev pub number_option : Text → ℕ → Rule
+number_option name most = value_option name (parsers.Signed (pos 1) (pos most))
 
 abbrev pub edition_option : Rule
-edition_option = numbered (codes "edition") 2
+edition_option = number_option (codes "edition") 2
 
 -- the number that the words give an option, and this one where they give none
-abbrev pub number_of : App → Text → ℕ → List Text → ℕ
-number_of app name none words = option_map_or (λ text. digits_value 10 (without_leading_plus text)) (one_of name (matches_of app words)) none
+abbrev pub option_number : App → Text → ℕ → List Text → ℕ
+option_number app name none words = option_map_or (λ text. digits_value 10 (without_leading_plus text)) (one_of name (matches_of app words)) none
 
 -- the number that the words give an option, if they give one
 abbrev pub named_number : App → Text → List Text → Option ℕ
@@ -65,22 +65,22 @@ versioned name = on_top (λ top. record top { has_version = true }) (new_app nam
 -- ---- sessions
 
 abbrev pub workers_option : Rule
-workers_option = numbered (codes "workers") 64
+workers_option = number_option (codes "workers") 64
 
 abbrev pub goset : App
 goset = with_rule (with_rule (versioned (codes "goset")) workers_option) edition_option
 
 -- how many workers the words name, and 4 where they name none
 abbrev pub workers_of : List Text → ℕ
-workers_of words = number_of goset (codes "workers") 4 words
+workers_of words = option_number goset (codes "workers") 4 words
 
 -- the edition that the words name, and the first where they name none
-abbrev pub edition_of : List Text → Edition
-edition_of words = edition_at (number_of goset (codes "edition") 1 words)
+abbrev pub edition_option_of : List Text → Edition
+edition_option_of words = edition_at (option_number goset (codes "edition") 1 words)
 
 -- what clap finds wrong with the words, or finds to show for them; nothing, where they ask for a session
-abbrev pub faults : List Text → Kinds
-faults words = fault_of goset words
+abbrev pub option_faults : List Text → Kinds
+option_faults words = fault_of goset words
 
 -- ---- sessions that go on from a kept workspace
 
@@ -94,10 +94,10 @@ asks_to_keep [] = false
 asks_to_keep (program ∷ words) = list_any names_keep words
 
 abbrev pub keep_option : Rule
-keep_option = record (valued (codes "keep") parsers.NonEmptyString) { required = true }
+keep_option = record (value_option (codes "keep") parsers.NonEmptyString) { required = true }
 
 abbrev pub expect_option : Rule
-expect_option = valued (codes "expect") parsers.NonEmptyString
+expect_option = value_option (codes "expect") parsers.NonEmptyString
 
 abbrev pub keep : App
 keep = with_rule (with_rule (with_rule (with_rule (versioned (codes "goset")) keep_option) workers_option) edition_option) expect_option
@@ -107,15 +107,15 @@ abbrev pub keep_name_of : List Text → Text
 keep_name_of words = unwrap_or (named_text keep (codes "keep") words) []
 
 abbrev pub keep_workers_of : List Text → ℕ
-keep_workers_of words = number_of keep (codes "workers") 4 words
+keep_workers_of words = option_number keep (codes "workers") 4 words
 
 -- the edition that the words name, if they name one
 abbrev pub keep_edition_of : List Text → Option Edition
 keep_edition_of words = option_map edition_at (named_number keep (codes "edition") words)
 
 -- the digest that the words expect, if they expect one
-abbrev pub expected_of : List Text → Option Text
-expected_of words = named_text keep (codes "expect") words
+abbrev pub expected_digest : List Text → Option Text
+expected_digest words = named_text keep (codes "expect") words
 
 -- what clap finds wrong with the words, or finds to show for them; nothing, where they ask for a session behind a kept workspace
 abbrev pub keep_faults : List Text → Kinds
@@ -128,7 +128,7 @@ abbrev pub all_ticks : ℕ
 all_ticks = 18446744073709551615
 
 abbrev pub ticks_option : Rule
-ticks_option = valued (codes "ticks") (parsers.Unsigned 0 all_ticks)
+ticks_option = value_option (codes "ticks") (parsers.Unsigned 0 all_ticks)
 
 abbrev pub plain_option : Rule
 plain_option = record (new_rule (codes "plain")) {
@@ -145,24 +145,24 @@ file_argument = record (new_rule (codes "file")) {
   required = true;
 }
 
-abbrev pub run : App
-run = with_rule (with_rule (with_rule (with_rule (versioned (codes "goset")) ticks_option) edition_option) plain_option) file_argument
+abbrev pub run_app : App
+run_app = with_rule (with_rule (with_rule (with_rule (versioned (codes "goset")) ticks_option) edition_option) plain_option) file_argument
 
 -- for how many ticks the words ask
 abbrev pub ticks_of : List Text → ℕ
-ticks_of words = number_of run (codes "ticks") all_ticks words
+ticks_of words = option_number run_app (codes "ticks") all_ticks words
 
 abbrev pub run_edition_of : List Text → Edition
-run_edition_of words = edition_at (number_of run (codes "edition") 1 words)
+run_edition_of words = edition_at (option_number run_app (codes "edition") 1 words)
 
 -- the words ask for faults in one line each
 abbrev pub wants_plain : List Text → Bool
-wants_plain words = option_map_or (λ text. bytes_eq text (codes "true")) (one_of (codes "plain") (matches_of run words)) false
+wants_plain words = option_map_or (λ text. bytes_eq text (codes "true")) (one_of (codes "plain") (matches_of run_app words)) false
 
 -- the files that the words name, in their order
 abbrev pub run_files_of : List Text → List Text
-run_files_of words = unwrap_or (all_of (codes "file") (matches_of run words)) []
+run_files_of words = unwrap_or (all_of (codes "file") (matches_of run_app words)) []
 
 -- what clap finds wrong with the words, or finds to show for them; nothing, where they ask for files to be run
 abbrev pub run_faults : List Text → Kinds
-run_faults words = fault_of run words
+run_faults words = fault_of run_app words

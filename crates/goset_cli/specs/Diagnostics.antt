@@ -5,24 +5,24 @@ use Rattle.go_text.specs.Named.{Source}
 use Rattle.go_diagnostics.specs.Diagnoses.{Diagnosed}
 use Rattle.go_diagnostics.specs.declared.package.PackageFile.{PackageFile}
 use Rattle.ws_path.specs.Paths.{directory, file_name}
-use Rattle.ws_report.specs.Reports.{Verdict, Good, Blocked, Wrong, rows}
+use Rattle.ws_report.specs.Reports.{DirectoryVerdict, Good, Blocked, Wrong, verdict_rows}
 use Rattle.ws_run.specs.Files.{Files}
-use Rattle.ws_run.specs.Told.{Folders, complaint_of, folder_of, in_folder}
-use Rattle.ws_run.specs.declared.answer.Answer.{Answer}
-use Rattle.ws_run.specs.declared.answer.Answer.TheVariants.{Faulty}
+use Rattle.ws_run.specs.Printing.{Folders, complaint_of, folder_of, in_folder}
+use Rattle.ws_run.specs.declared.answer.RunReport.{RunReport}
+use Rattle.ws_run.specs.declared.answer.RunReport.TheVariants.{Faulty}
 
 -- ---- files
 
 -- the directory and the source of a file
-abbrev pub source_of : List ℕ × List ℕ → List ℕ × Source
-source_of file = (directory file.0, record { name = file_name file.0; text = file.1 })
+abbrev pub directory_source : List ℕ × List ℕ → List ℕ × Source
+directory_source file = (directory file.0, record { name = file_name file.0; text = file.1 })
 
 abbrev pub placed : PackageFile → List ℕ × Source
 placed file = (string_bytes file.directory, file.source)
 
 -- these are the files, each by its directory and its name
 abbrev pub AreFiles : Files → List PackageFile → Type 0
-AreFiles files sources = map placed sources ≡ map source_of files
+AreFiles files sources = map placed sources ≡ map directory_source files
 
 -- ---- a report
 
@@ -31,13 +31,13 @@ abbrev pub path_of : Folders → List ℕ → List ℕ → List ℕ
 path_of folders directory file = in_folder (folder_of folders directory) ++ file
 
 -- of a directory with a fault the diagnosis of it, and of one that is good or blocked nothing
-abbrev pub IsRowText : Edition → Folders → List PackageFile → List ℕ × Verdict → List ℕ → Type 0
+abbrev pub IsRowText : Edition → Folders → List PackageFile → List ℕ × DirectoryVerdict → List ℕ → Type 0
 IsRowText edition folders sources (directory, Good) text = text ≡ []
 IsRowText edition folders sources (directory, Blocked) text = text ≡ []
 IsRowText edition folders sources (directory, Wrong fault) text = Diagnosed edition (path_of folders directory fault.file) directory fault sources text
 
 -- the texts of all rows of a report, in their order
-abbrev pub AreRowTexts : Edition → Folders → List PackageFile → List (List ℕ × Verdict) → List ℕ → Type 0
+abbrev pub AreRowTexts : Edition → Folders → List PackageFile → List (List ℕ × DirectoryVerdict) → List ℕ → Type 0
 AreRowTexts edition folders sources [] text = text ≡ []
 AreRowTexts edition folders sources (row ∷ rows) text =
     (first : List ℕ) × (others : List ℕ) × IsRowText edition folders sources row first × AreRowTexts edition folders sources rows others × (text ≡ first ++ others)
@@ -45,10 +45,10 @@ AreRowTexts edition folders sources (row ∷ rows) text =
 -- ---- an answer
 
 -- of faults their diagnoses, and of other answers one line or nothing
-abbrev pub IsExplanation : Edition → Folders → List PackageFile → Answer → List ℕ → Type 0
-IsExplanation edition folders sources (Faulty report) text = AreRowTexts edition folders sources (rows report.directories.items) text
+abbrev pub IsExplanation : Edition → Folders → List PackageFile → RunReport → List ℕ → Type 0
+IsExplanation edition folders sources (Faulty report) text = AreRowTexts edition folders sources (verdict_rows report.directories.items) text
 IsExplanation edition folders sources answer text = text ≡ complaint_of folders answer
 
 -- the same, where files are given by path and text
-abbrev pub Explains : Edition → Folders → Files → Answer → List ℕ → Type 0
+abbrev pub Explains : Edition → Folders → Files → RunReport → List ℕ → Type 0
 Explains edition folders files answer text = (sources : List PackageFile) × AreFiles files sources × IsExplanation edition folders sources answer text

@@ -14,7 +14,7 @@ abbrev pub failed_writes : {A : Type 0} → Result A SessionError → ℕ
 failed_writes ended = elim ended [ Err Write ↦ 1 | _ ↦ 0 ]
 
 -- of the writer, where the script is read
-abbrev pub unwritten : {A : Type 0} → Result A AnswerError → ℕ
-unwritten (Ok a) = 0
-unwritten (Err answers.Memory) = 0
-unwritten (Err answers.Write) = 1
+abbrev pub unwritten_count : {A : Type 0} → Result A AnswerError → ℕ
+unwritten_count (Ok a) = 0
+unwritten_count (Err answers.Memory) = 0
+unwritten_count (Err answers.Write) = 1

@@ -4,7 +4,7 @@ use Rattle.clap.specs.Kinds.{Kinds}
 use Rattle.ws_keep.specs.declared.store.StoreError.{StoreError}
 use Rattle.ws_keep.specs.declared.store.StoreError.TheVariants as stores
 use Rattle.goset_cli.specs.Failures.{failed_reads, failed_writes}
-use Rattle.goset_cli.specs.Statuses.{FailsUnasked, complaint}
+use Rattle.goset_cli.specs.Statuses.{FailsUnasked, error_line}
 use Rattle.goset_cli.specs.declared.keeping.KeepError.{KeepError}
 use Rattle.goset_cli.specs.declared.keeping.KeepError.TheVariants.{Session, Store, Full, Another}
 
@@ -21,7 +21,7 @@ store_complaint stores.Unwritten = codes "goset: keep: can't be written\n"
 
 -- and for each run that kept nothing
 abbrev pub keep_complaint : KeepError → List ℕ
-keep_complaint (Session failure) = complaint failure
+keep_complaint (Session failure) = error_line failure
 keep_complaint (Store error) = store_complaint error
 keep_complaint Full = codes "goset: keep: over 16777216 bytes with the script\n"
 keep_complaint Another = codes "goset: keep: another\n"

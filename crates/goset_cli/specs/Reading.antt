@@ -1,6 +1,6 @@
 -- What reading a whole script tells.
 use Rattle.std.specs.Prelude.{◌≡◌, ℕ, ◌<◌, List, [], ◌∷◌, ◌++◌, length, map, Option, Result, Ok, Err}
-use Rattle.goset_cli.specs.Told.{Told, Gave, End, Failed, Grows}
+use Rattle.goset_cli.specs.Streams.{ReadResult, Gave, End, Failed, GrowsBy}
 use Rattle.goset_cli.specs.declared.reading.ReadError.{ReadError}
 use Rattle.goset_cli.specs.declared.reading.ReadError.TheVariants.{Memory, Read, TooLong}
 
@@ -8,19 +8,19 @@ use Rattle.goset_cli.specs.declared.reading.ReadError.TheVariants.{Memory, Read,
 abbrev pub limit : ℕ
 limit = 16777216
 
-abbrev pub joined : List (List ℕ) → List ℕ
-joined [] = []
-joined (piece ∷ pieces) = piece ++ joined pieces
+abbrev pub concatenated : List (List ℕ) → List ℕ
+concatenated [] = []
+concatenated (piece ∷ pieces) = piece ++ concatenated pieces
 
 -- from old to new a reader gave these bytes, in some pieces, and then told the end
-abbrev pub GaveAll : Option (List Told) → Option (List Told) → List ℕ → Type 0
-GaveAll old new bytes = (pieces : List (List ℕ)) × Grows old new (map Gave pieces ++ End ∷ []) × (joined pieces ≡ bytes)
+abbrev pub GaveAll : Option (List ReadResult) → Option (List ReadResult) → List ℕ → Type 0
+GaveAll old new bytes = (pieces : List (List ℕ)) × GrowsBy old new (map Gave pieces ++ End ∷ []) × (concatenated pieces ≡ bytes)
 
 -- what a reader told where its script wasn't read
-abbrev pub NotRead : ReadError → Option (List Told) → Option (List Told) → Type 0
-NotRead Memory old new = (pieces : List (List ℕ)) × Grows old new (map Gave pieces)
-NotRead Read old new = (pieces : List (List ℕ)) × Grows old new (map Gave pieces ++ Failed ∷ [])
-NotRead TooLong old new = (pieces : List (List ℕ)) × Grows old new (map Gave pieces) × (limit < length (joined pieces))
+abbrev pub NotRead : ReadError → Option (List ReadResult) → Option (List ReadResult) → Type 0
+NotRead Memory old new = (pieces : List (List ℕ)) × GrowsBy old new (map Gave pieces)
+NotRead Read old new = (pieces : List (List ℕ)) × GrowsBy old new (map Gave pieces ++ Failed ∷ [])
+NotRead TooLong old new = (pieces : List (List ℕ)) × GrowsBy old new (map Gave pieces) × (limit < length (concatenated pieces))
 
 -- how many failures that answer counts
 abbrev pub failures_of : {A : Type 0} → Result A ReadError → ℕ

@@ -4,22 +4,22 @@ use Rattle.std.specs.List.{list_any}
 use Rattle.clap.specs.Kinds.{Kinds}
 use Rattle.clap.specs.declared.error.kind.ErrorKind.{ErrorKind}
 use Rattle.clap.specs.declared.error.kind.ErrorKind.TheVariants.{DisplayHelp, DisplayVersion}
-use Rattle.goset_cli.specs.Told.{Grows}
+use Rattle.goset_cli.specs.Streams.{GrowsBy}
 use Rattle.goset_cli.specs.declared.running.SessionError.{SessionError}
 use Rattle.goset_cli.specs.declared.running.SessionError.TheVariants.{Memory, Read, Write, TooLong}
 use Rattle.goset_cli.specs.declared.status.Status.{Status}
 use Rattle.goset_cli.specs.declared.status.Status.TheVariants.{Done, Misused}
 
 -- the number by which the system is told how the program ends
-abbrev pub code_of : {E : Type 0} → Result Status E → ℕ
-code_of ended = elim ended [ Ok Done ↦ 0 | Err e ↦ 1 | Ok Misused ↦ 2 ]
+abbrev pub exit_code : {E : Type 0} → Result Status E → ℕ
+exit_code ended = elim ended [ Ok Done ↦ 0 | Err e ↦ 1 | Ok Misused ↦ 2 ]
 
 -- the line of standard error for each failure
-abbrev pub complaint : SessionError → List ℕ
-complaint Memory = codes "goset: memory\n"
-complaint Read = codes "goset: read\n"
-complaint Write = codes "goset: write\n"
-complaint TooLong = codes "goset: script over 16777216 bytes\n"
+abbrev pub error_line : SessionError → List ℕ
+error_line Memory = codes "goset: memory\n"
+error_line Read = codes "goset: read\n"
+error_line Write = codes "goset: write\n"
+error_line TooLong = codes "goset: script over 16777216 bytes\n"
 
 -- the line of standard error where a word isn't text
 abbrev pub not_utf8 : List ℕ
@@ -49,14 +49,14 @@ abbrev pub FailsByKind : ErrorKind → SessionError → Type 0
 FailsByKind kind failure = (failure ≡ Memory) ⊎ ((failure ≡ Write) × (is_asked kind ≡ true))
 
 -- an end took a text, or a write of it failed and the end took a beginning; it counts its failed writes
-abbrev pub Tells : List ℕ → ℕ → ℕ → Option (List ℕ) → Option (List ℕ) → Type 0
-Tells text failed failed' written written' =
-    ((failed' ≡ failed) × Grows written written' text) ⊎ ((failed' ≡ failed + 1) × ((n : ℕ) × Grows written written' (take n text)))
+abbrev pub WritesOut : List ℕ → ℕ → ℕ → Option (List ℕ) → Option (List ℕ) → Type 0
+WritesOut text failed failed' written written' =
+    ((failed' ≡ failed) × GrowsBy written written' text) ⊎ ((failed' ≡ failed + 1) × ((n : ℕ) × GrowsBy written written' (take n text)))
 
 -- a writer took some text whole
 abbrev pub Shows : Option (List ℕ) → Option (List ℕ) → Type 0
-Shows written written' = (text : List ℕ) × (0 < length text) × Grows written written' text
+Shows written written' = (text : List ℕ) × (0 < length text) × GrowsBy written written' text
 
 -- an end was told some text
 abbrev pub Complains : ℕ → ℕ → Option (List ℕ) → Option (List ℕ) → Type 0
-Complains failed failed' written written' = (text : List ℕ) × (0 < length text) × Tells text failed failed' written written'
+Complains failed failed' written written' = (text : List ℕ) × (0 < length text) × WritesOut text failed failed' written written'

@@ -1,7 +1,7 @@
 //! Any reader and writer as the ends of a session.
 ghost use Rattle.std.specs.Prelude.{◌≡◌, ◌+◌, ◌<◌, ◌≤◌, ◌^◌, None, length, IfOk};
 ghost use Rattle.std.specs.Io.KnownBytes.{ReadConsumes};
-ghost use Rattle.goset_cli.specs.Told.{read_failures};
+ghost use Rattle.goset_cli.specs.Streams.{read_failures};
 
 use crate::reading::{EndFault, ScriptIn};
 use crate::writing::ScriptOut;

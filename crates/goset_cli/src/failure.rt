@@ -6,7 +6,7 @@ ghost use Rattle.goset_cli.specs.declared.failure.Failure.TheVariants.{Memory};
 use std::alloc::{AllocError, AllocFailed, Global};
 use ws_module::unread::{FilesError, Unread};
 
-/// Why files aren't run, or what comes of them isn't told.
+/// Why files aren't run, or their report isn't printed.
 #[derive(Drop)]
 pub enum Failure {
     /// A file isn't taken.

@@ -1,7 +1,7 @@
 //! Where the commands go that are kept.
 ghost use Rattle.std.specs.Prelude.{◌≡◌, ℕ, List, [], None, Option, Some, OnOk};
 ghost use Rattle.ws_command.specs.Pieces.{closed};
-ghost use Rattle.goset_cli.specs.Told.{Grows};
+ghost use Rattle.goset_cli.specs.Streams.{GrowsBy};
 
 use std::alloc::{AllocError, Global};
 
@@ -13,7 +13,7 @@ pub trait Journal {
     /// Takes a command's line with the lines of its text, and a newline where the last has none. An
     /// `Err` is want of memory.
     fn push(&mut self, lines: &[u8]) -> Result<(), AllocError>
-        ensures { OnOk result (Grows (taken self.old) (taken self.new) (closed lines.now)) };
+        ensures { OnOk result (GrowsBy (taken self.old) (taken self.new) (closed lines.now)) };
 }
 
 /// A journal that keeps nothing.

@@ -3,7 +3,7 @@ ghost use Rattle.std.specs.Prelude.{◌≡◌, ◌≢◌, ℕ, List, ◌+◌, �
 ghost use Rattle.goset_cli.specs.CommandLine.{keep_faults, keep_name_of};
 ghost use Rattle.goset_cli.specs.KeptRuns.{KeptBy, KeptWith};
 ghost use Rattle.goset_cli.specs.KeptStatuses.{FailsUnkept, keep_complaint, kept_reads, kept_writes, store_complaint};
-ghost use Rattle.goset_cli.specs.Statuses.{Complains, Shows, Tells, asks_text, is_wrong};
+ghost use Rattle.goset_cli.specs.Statuses.{Complains, Shows, WritesOut, asks_text, is_wrong};
 ghost use Rattle.goset_cli.specs.declared.status.Status.TheVariants.{Done, Misused};
 
 use crate::Plain;
@@ -67,7 +67,7 @@ fn run<T: Threads + Wait + Sync, K: Store, I: ScriptIn, O: ScriptOut, E: ScriptO
     ensures others { (other : List ℕ) → other ≢ options.now.name.now → K.kept store.new other ≡ K.kept store.old other }
     ensures done { IfOk result (λ status. status ≡ Done) }
     ensures silent { OnOk result (errors.new ≡ errors.old) }
-    ensures tells { IfErr result (λ error. Tells (keep_complaint error) (E.failed errors.old)
+    ensures tells { IfErr result (λ error. WritesOut (keep_complaint error) (E.failed errors.old)
         (E.failed errors.new) (E.written errors.old) (E.written errors.new)) }
     ensures reads { I.failed reader.new ≡ I.failed reader.old + kept_reads result }
     ensures writes { O.failed writer.new ≡ O.failed writer.old + kept_writes result }
@@ -128,7 +128,7 @@ pub fn run_keep_words<
         (E.failed errors.new) (E.written errors.old) (E.written errors.new)) }
     ensures fails { keep_faults (map S.text words.now) ≢ []
         → IfErr result (FailsUnkept (keep_faults (map S.text words.now))) }
-    ensures tells { IfErr result (λ error. Tells (keep_complaint error) (E.failed errors.old)
+    ensures tells { IfErr result (λ error. WritesOut (keep_complaint error) (E.failed errors.old)
         (E.failed errors.new) (E.written errors.old) (E.written errors.new)) }
     ensures reads { I.failed reader.new ≡ I.failed reader.old + kept_reads result }
     ensures writes { O.failed writer.new ≡ O.failed writer.old + kept_writes result }

@@ -4,10 +4,10 @@ ghost use Rattle.std.specs.Str.{bytes_eq};
 ghost use Rattle.hex.specs.Hex.{encode_lower};
 ghost use Rattle.sha2.specs.Sha256.{sha256};
 ghost use Rattle.ws_keep.specs.Keeping.{IsClearBehind};
-ghost use Rattle.ws_keep.specs.Stored.{Becomes, Holds};
+ghost use Rattle.ws_keep.specs.Stored.{StoreBecomes, StoreHolds};
 ghost use Rattle.goset_cli.specs.Answers.{unanswered, unread};
-ghost use Rattle.goset_cli.specs.Failures.{unwritten};
-ghost use Rattle.goset_cli.specs.KeptRuns.{BegunWith, IsExpected, KeptWith, NotLoaded, NothingWith, Resumed, ResumedSome, edition_line, opened};
+ghost use Rattle.goset_cli.specs.Failures.{unwritten_count};
+ghost use Rattle.goset_cli.specs.KeptRuns.{BegunWith, IsExpected, KeptWith, NotLoaded, NothingWith, Resumed, ResumedSome, edition_line, with_edition_line};
 ghost use Rattle.goset_cli.specs.KeptStatuses.{kept_reads, kept_writes};
 ghost use Rattle.goset_cli.specs.Reading.{limit};
 ghost use Rattle.goset_cli.specs.declared.keeping.KeepError.TheVariants as errors;
@@ -109,7 +109,7 @@ fn edition_line(edition: Edition) -> &'static str
 
 /// A script behind the line of the edition that is named, if one is.
 fn opened(alloc: Global, edition: Option<Edition>, script: Vec<u8>) -> Result<Vec<u8>, AllocError>
-    ensures { IfOk result (λ lines. lines.items ≡ opened edition script.items) }
+    ensures { IfOk result (λ lines. lines.items ≡ with_edition_line edition script.items) }
 {
     let Some(edition) = edition else {
         return Ok(script);
@@ -157,7 +157,7 @@ fn resume<R: Threads + Wait + Sync, O: ScriptOut, G: Gate>(
         (ResumedSome kept.now script.now (O.written writer.old) (O.written writer.new)) }
     ensures fits { IsClearBehind kept.now script.now → IfOk result (λ new.
         length new.items ≤ length kept.now + length script.now + 2) }
-    ensures failed { O.failed writer.new ≡ O.failed writer.old + unwritten result }
+    ensures failed { O.failed writer.new ≡ O.failed writer.old + unwritten_count result }
 {
     let mut replicas = Replicas::new(alloc, Edition::One);
     let mut journal = Kept::new(alloc);
@@ -203,7 +203,7 @@ fn load<S: Store>(
     store: &mut S,
     options: &KeepOptions<'_>,
 ) -> Result<Vec<u8>, KeepError>
-    ensures loaded { IfOk result (λ kept. Holds (S.kept store.old options.now.name.now) kept.items) }
+    ensures loaded { IfOk result (λ kept. StoreHolds (S.kept store.old options.now.name.now) kept.items) }
     ensures expected { IfOk result (λ kept.
         IsExpected (option_map (λ digest. digest.now) options.now.expected) kept.items) }
     ensures still { S.kept store.new ≡ S.kept store.old }
@@ -224,7 +224,7 @@ fn load_locked<S: Store>(
     store: &mut S,
     options: &KeepOptions<'_>,
 ) -> Result<Vec<u8>, KeepError>
-    ensures loaded { IfOk result (λ kept. Holds (S.kept store.old options.now.name.now) kept.items) }
+    ensures loaded { IfOk result (λ kept. StoreHolds (S.kept store.old options.now.name.now) kept.items) }
     ensures expected { IfOk result (λ kept.
         IsExpected (option_map (λ digest. digest.now) options.now.expected) kept.items) }
     ensures still { S.kept store.new ≡ S.kept store.old }
@@ -278,8 +278,8 @@ fn keep<S: Store>(
     kept: &[u8],
     new: &[u8],
 ) -> Result<(), StoreError>
-    ensures ok { Holds (S.kept store.old name.now) kept.now → OnOk result
-        (Becomes (S.kept store.old name.now) (S.kept store.new name.now) new.now) }
+    ensures ok { StoreHolds (S.kept store.old name.now) kept.now → OnOk result
+        (StoreBecomes (S.kept store.old name.now) (S.kept store.new name.now) new.now) }
     ensures err { OnErr result (S.kept store.new ≡ S.kept store.old) }
     ensures others { (other : List ℕ) → other ≢ name.now → S.kept store.new other ≡ S.kept store.old other }
 {

@@ -1,6 +1,7 @@
-//! The program's command line: sessions that scripts ask for, and Go programs that are run at once.
+//! The command line: sessions that scripts ask for, and Go programs that are run at once.
 #![tactic(auto)]
 
+pub mod diagnostics;
 pub mod ends;
 pub mod failure;
 pub mod journal;
@@ -13,7 +14,6 @@ pub mod run;
 pub mod running;
 pub mod script;
 pub mod status;
-pub mod told;
 pub mod words;
 pub mod writing;
 

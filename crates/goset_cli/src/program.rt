@@ -2,10 +2,10 @@
 ghost use Rattle.std.specs.Prelude.{◌≡◌, ◌≢◌, ◌+◌, ◌<◌, ◌≤◌, ◌^◌, [], IfErr, IfOk, MatchResult, OnErr, OnOk, false, length, map, string_bytes, true};
 ghost use Rattle.clap.specs.Words.{kind_of};
 ghost use Rattle.clap.specs.declared.error.kind.ErrorKind.TheVariants.{OutOfMemory};
-ghost use Rattle.goset_cli.specs.CommandLine.{faults};
+ghost use Rattle.goset_cli.specs.CommandLine.{option_faults};
 ghost use Rattle.goset_cli.specs.Ends.{Session, SessionBy};
 ghost use Rattle.goset_cli.specs.Failures.{failed_reads, failed_writes};
-ghost use Rattle.goset_cli.specs.Statuses.{Complains, FailsByKind, FailsUnasked, Shows, Tells, asks_text, complaint, is_asked, is_wrong, not_utf8};
+ghost use Rattle.goset_cli.specs.Statuses.{Complains, FailsByKind, FailsUnasked, Shows, WritesOut, asks_text, error_line, is_asked, is_wrong, not_utf8};
 ghost use Rattle.goset_cli.specs.declared.running.SessionError.TheVariants.{Memory};
 ghost use Rattle.goset_cli.specs.declared.status.Status.TheVariants.{Done, Misused};
 
@@ -26,7 +26,7 @@ use std::thread::Threads;
 
 // The line of standard error for a failure.
 pub(crate) fn line_of(failure: SessionError) -> &'static str
-    ensures { result.now ≡ complaint failure }
+    ensures { result.now ≡ error_line failure }
 {
     match failure {
         SessionError::Memory => "goset: memory\n",
@@ -39,7 +39,7 @@ pub(crate) fn line_of(failure: SessionError) -> &'static str
 // Tells of a failure, as far as standard error takes it.
 fn complain<E: ScriptOut>(failure: SessionError, errors: &mut E)
     requires tellable { E.failed errors.old + 1 < 2 ^ 64 }
-    ensures { Tells (complaint failure) (E.failed errors.old) (E.failed errors.new)
+    ensures { WritesOut (error_line failure) (E.failed errors.old) (E.failed errors.new)
         (E.written errors.old) (E.written errors.new) }
 {
     tell(errors, line_of(failure).as_bytes());
@@ -63,7 +63,7 @@ fn run<T: Threads + Wait + Sync, I: ScriptIn, O: ScriptOut, E: ScriptOut>(
         (O.written writer.old) (O.written writer.new) }
     ensures done { IfOk result (λ status. status ≡ Done) }
     ensures silent { OnOk result (errors.new ≡ errors.old) }
-    ensures tells { IfErr result (λ failure. Tells (complaint failure) (E.failed errors.old)
+    ensures tells { IfErr result (λ failure. WritesOut (error_line failure) (E.failed errors.old)
         (E.failed errors.new) (E.written errors.old) (E.written errors.new)) }
     ensures reads { I.failed reader.new ≡ I.failed reader.old + failed_reads result }
     ensures writes { O.failed writer.new ≡ O.failed writer.old + failed_writes result }
@@ -107,7 +107,7 @@ pub(crate) fn explain<O: ScriptOut, E: ScriptOut>(
     ensures explained { IfOk result (λ status. status ≡ Misused → Complains (E.failed errors.old)
         (E.failed errors.new) (E.written errors.old) (E.written errors.new)) }
     ensures fails { IfErr result (FailsByKind (kind_of error.now)) }
-    ensures tells { IfErr result (λ failure. Tells (complaint failure) (E.failed errors.old)
+    ensures tells { IfErr result (λ failure. WritesOut (error_line failure) (E.failed errors.old)
         (E.failed errors.new) (E.written errors.old) (E.written errors.new)) }
     ensures writes { O.failed writer.new ≡ O.failed writer.old + failed_writes result }
     ensures unwritten { is_asked (kind_of error.now) ≡ false → writer.new ≡ writer.old }
@@ -137,9 +137,9 @@ pub(crate) fn explain<O: ScriptOut, E: ScriptOut>(
 pub fn refuse_words<E: ScriptOut>(error: &io::Error, errors: &mut E) -> Result<Status, SessionError>
     requires tellable { E.failed errors.old + 1 < 2 ^ 64 }
     ensures known { MatchResult result (λ status. status ≡ Misused) (λ failure. failure ≡ Memory) }
-    ensures misused { OnOk result (Tells not_utf8 (E.failed errors.old) (E.failed errors.new)
+    ensures misused { OnOk result (WritesOut not_utf8 (E.failed errors.old) (E.failed errors.new)
         (E.written errors.old) (E.written errors.new)) }
-    ensures memory { OnErr result (Tells (complaint Memory) (E.failed errors.old)
+    ensures memory { OnErr result (WritesOut (error_line Memory) (E.failed errors.old)
         (E.failed errors.new) (E.written errors.old) (E.written errors.new)) }
 {
     if error.kind() == io::ErrorKind::OutOfMemory {
@@ -174,24 +174,24 @@ pub fn run_words<T: Threads + Wait + Sync, S: AsStr, I: ScriptIn, O: ScriptOut, 
     requires tellable { E.failed errors.old + 1 < 2 ^ 64 }
     ensures session { SessionBy (map S.text words.now) result (I.told reader.old) (I.told reader.new)
         (O.written writer.old) (O.written writer.new) }
-    ensures asked { faults (map S.text words.now) ≢ [] → IfOk result (λ status. status ≡ Done
-        → asks_text (faults (map S.text words.now)) ≡ true) }
-    ensures shown { faults (map S.text words.now) ≢ [] → IfOk result (λ status. status ≡ Done
+    ensures asked { option_faults (map S.text words.now) ≢ [] → IfOk result (λ status. status ≡ Done
+        → asks_text (option_faults (map S.text words.now)) ≡ true) }
+    ensures shown { option_faults (map S.text words.now) ≢ [] → IfOk result (λ status. status ≡ Done
         → Shows (O.written writer.old) (O.written writer.new)) }
     ensures silent { IfOk result (λ status. status ≡ Done → errors.new ≡ errors.old) }
     ensures misused { IfOk result (λ status. status ≡ Misused
-        → is_wrong (faults (map S.text words.now)) ≡ true) }
+        → is_wrong (option_faults (map S.text words.now)) ≡ true) }
     ensures explained { IfOk result (λ status. status ≡ Misused → Complains (E.failed errors.old)
         (E.failed errors.new) (E.written errors.old) (E.written errors.new)) }
-    ensures fails { faults (map S.text words.now) ≢ []
-        → IfErr result (FailsUnasked (faults (map S.text words.now))) }
-    ensures tells { IfErr result (λ failure. Tells (complaint failure) (E.failed errors.old)
+    ensures fails { option_faults (map S.text words.now) ≢ []
+        → IfErr result (FailsUnasked (option_faults (map S.text words.now))) }
+    ensures tells { IfErr result (λ failure. WritesOut (error_line failure) (E.failed errors.old)
         (E.failed errors.new) (E.written errors.old) (E.written errors.new)) }
     ensures reads { I.failed reader.new ≡ I.failed reader.old + failed_reads result }
     ensures writes { O.failed writer.new ≡ O.failed writer.old + failed_writes result }
-    ensures unread { faults (map S.text words.now) ≢ [] → reader.new ≡ reader.old }
-    ensures unwritten { faults (map S.text words.now) ≢ []
-        → asks_text (faults (map S.text words.now)) ≡ false
+    ensures unread { option_faults (map S.text words.now) ≢ [] → reader.new ≡ reader.old }
+    ensures unwritten { option_faults (map S.text words.now) ≢ []
+        → asks_text (option_faults (map S.text words.now)) ≡ false
         → writer.new ≡ writer.old }
 {
     match read_options(alloc, words) {

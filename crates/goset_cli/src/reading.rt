@@ -1,6 +1,6 @@
 //! Reading a script to its end.
 ghost use Rattle.std.specs.Prelude.{◌≡◌, ℕ, ◌+◌, ◌<◌, ◌≤◌, ◌^◌, List, [], ◌∷◌, length, Option, IfOk, MatchResult};
-ghost use Rattle.goset_cli.specs.Told.{Told, told_by, read_failures, Grows};
+ghost use Rattle.goset_cli.specs.Streams.{ReadResult, read_result_of, read_failures, GrowsBy};
 ghost use Rattle.goset_cli.specs.Reading.{limit, GaveAll, NotRead, failures_of};
 ghost use Rattle.goset_cli.specs.declared.reading.ReadError.TheVariants.{Memory, Read};
 
@@ -14,8 +14,8 @@ pub struct EndFault;
 
 /// Where a script comes from.
 pub trait ScriptIn {
-    /// What its reads told so far, where that is known.
-    ghost told: { Self → Option (List Told) };
+    /// What its reads gave so far, if that is known.
+    ghost told: { Self → Option (List ReadResult) };
 
     /// How many of its reads failed.
     ghost failed: { Self → ℕ };
@@ -29,7 +29,7 @@ pub trait ScriptIn {
     fn read(&mut self, buffer: &mut [u8]) -> Result<usize, EndFault>
         requires { failed self.old + 1 < 2 ^ 64 }
         ensures within { IfOk result (λ n. n ≤ length buffer.new) }
-        ensures tells { Grows (told self.old) (told self.new) (told_by result buffer.new ∷ []) }
+        ensures tells { GrowsBy (told self.old) (told self.new) (read_result_of result buffer.new ∷ []) }
         ensures counts { failed self.new ≡ failed self.old + read_failures result };
 }
 
@@ -70,7 +70,7 @@ impl From<EndFault> for ReadError {
 /// - `TooLong`: the reader gave more than `LIMIT` bytes. What it has left stays in it.
 pub fn read_whole<R: ScriptIn>(alloc: Global, reader: &mut R) -> Result<Vec<u8>, ReadError>
     requires { R.failed reader.old + 1 < 2 ^ 64 }
-    ensures told { MatchResult result
+    ensures was_read { MatchResult result
         (λ script. GaveAll (R.told reader.old) (R.told reader.new) script.items)
         (λ e. NotRead e (R.told reader.old) (R.told reader.new)) }
     ensures fits { IfOk result (λ script. length script.items ≤ limit) }

@@ -1,20 +1,20 @@
 //! Go programs that are run at once: from the words behind `run` to the status.
 ghost use Rattle.std.specs.Prelude.{◌≡◌, ◌≢◌, ◌⊎◌, ◌+◌, ◌<◌, ◌≤◌, ◌^◌, [], IfOk, false, map, string_bytes, true};
-ghost use Rattle.ws_run.specs.Steps.{Told};
-ghost use Rattle.ws_run.specs.Told.{complaint_of, folders_of, output_of, status_of};
+ghost use Rattle.ws_run.specs.Steps.{IsReportOfRun};
+ghost use Rattle.ws_run.specs.Printing.{complaint_of, folders_of, output_of, status_of};
 ghost use Rattle.goset_cli.specs.CommandLine.{run_faults};
 ghost use Rattle.goset_cli.specs.Diagnostics.{Explains};
-ghost use Rattle.goset_cli.specs.Runs.{IsAccount, IsRunStatus, Ran, RanBy, TellsName, TellsOf, run_code_of};
-ghost use Rattle.goset_cli.specs.Statuses.{Complains, Shows, Tells, asks_text, is_wrong};
-ghost use Rattle.goset_cli.specs.Told.{Grows};
+ghost use Rattle.goset_cli.specs.Runs.{IsAccount, IsRunStatus, FilesRun, FilesRunBy, WritesName, WritesFailure, run_code_of};
+ghost use Rattle.goset_cli.specs.Statuses.{Complains, Shows, WritesOut, asks_text, is_wrong};
+ghost use Rattle.goset_cli.specs.Streams.{GrowsBy};
 ghost use Rattle.goset_cli.specs.declared.failure.Failure.{Failure};
 ghost use Rattle.goset_cli.specs.declared.failure.Failure.TheVariants as failures;
 
+use crate::diagnostics::{diagnostics, package_files};
 use crate::failure::Failure;
 use crate::program::explain;
 use crate::running::SessionError;
 use crate::status::Status;
-use crate::told::{diagnostics, package_files};
 use crate::words::{RunOptions, read_run_options};
 use crate::writing::{ScriptOut, tell, write_whole};
 use go_text::edition::Edition;
@@ -24,7 +24,7 @@ use std::io;
 use std::sync::Wait;
 use std::thread::Threads;
 use ws_module::files::{Workspace, read_workspace};
-use ws_run::answer::Answer;
+use ws_run::answer::RunReport;
 use ws_run::run::run_files;
 
 /// How many workers build.
@@ -36,7 +36,7 @@ const FAILED: u8 = 70;
 /// What came of files, and what standard error gets of it.
 #[derive(Drop)]
 pub struct Account {
-    pub answer: Answer,
+    pub answer: RunReport,
     pub text: Vec<u8>,
 }
 
@@ -44,7 +44,7 @@ pub struct Account {
 fn fail<E: ScriptOut>(alloc: Global, failure: &Failure, errors: &mut E) -> u8
     requires tellable { E.failed errors.old + 1 < 2 ^ 64 }
     ensures status { result ≡ 70 }
-    ensures tells { TellsOf failure.now (E.failed errors.old) (E.failed errors.new)
+    ensures tells { WritesFailure failure.now (E.failed errors.old) (E.failed errors.new)
         (E.written errors.old) (E.written errors.new) }
 {
     match failure.line(alloc) {
@@ -64,7 +64,7 @@ fn run_workspace<R: Threads + Wait + Sync>(
     workspace: Workspace,
 ) -> Result<Account, Failure>
     ensures comes { IfOk result (λ account.
-        Told edition workspace.files.items (string_bytes workspace.directory) ticks account.answer) }
+        IsReportOfRun edition workspace.files.items (string_bytes workspace.directory) ticks account.answer) }
     ensures says { is_plain ≡ true → IfOk result (λ account.
         account.text.items ≡ complaint_of (folders_of workspace.folders.items) account.answer) }
     ensures explains { is_plain ≡ false → IfOk result (λ account.
@@ -120,10 +120,10 @@ fn write_account<O: ScriptOut, E: ScriptOut>(
     requires tellable { E.failed errors.old + 1 < 2 ^ 64 }
     ensures known { (result ≡ 70) ⊎ (result ≡ status_of account.now.answer) }
     ensures prints { result ≢ 70 →
-        Grows (O.written writer.old) (O.written writer.new) (output_of account.now.answer) }
-    ensures says { result ≢ 70 → Tells account.now.text.items (E.failed errors.old) (E.failed errors.new)
+        GrowsBy (O.written writer.old) (O.written writer.new) (output_of account.now.answer) }
+    ensures says { result ≢ 70 → WritesOut account.now.text.items (E.failed errors.old) (E.failed errors.new)
         (E.written errors.old) (E.written errors.new) }
-    ensures fails { result ≡ 70 → TellsOf failures.Write (E.failed errors.old) (E.failed errors.new)
+    ensures fails { result ≡ 70 → WritesFailure failures.Write (E.failed errors.old) (E.failed errors.new)
         (E.written errors.old) (E.written errors.new) }
 {
     match write_whole(writer, account.answer.output()) {
@@ -146,9 +146,9 @@ fn run_with<R: Threads + Wait + Sync, O: ScriptOut, E: ScriptOut>(
     requires writable { O.failed writer.old + 1 < 2 ^ 64 }
     requires tellable { E.failed errors.old + 1 < 2 ^ 64 }
     ensures known { (result ≤ 3) ⊎ (result ≡ 70) }
-    ensures ran { result ≢ 70 → Ran options.now.edition options.now.ticks options.now.is_plain
+    ensures ran { result ≢ 70 → FilesRun options.now.edition options.now.ticks options.now.is_plain
         (O.written writer.old) (O.written writer.new) result }
-    ensures fails { result ≡ 70 → (failure : Failure) × TellsOf failure (E.failed errors.old)
+    ensures fails { result ≡ 70 → (failure : Failure) × WritesFailure failure (E.failed errors.old)
         (E.failed errors.new) (E.written errors.old) (E.written errors.new) }
 {
     match run_options(rt, host, options) {
@@ -173,7 +173,7 @@ fn run_code_of(ended: Result<Status, SessionError>) -> u8
 pub fn refuse_run_words<E: ScriptOut>(error: &io::Error, errors: &mut E) -> u8
     requires tellable { E.failed errors.old + 1 < 2 ^ 64 }
     ensures status { result ≡ 70 }
-    ensures tells { TellsName (E.failed errors.old) (E.failed errors.new)
+    ensures tells { WritesName (E.failed errors.old) (E.failed errors.new)
         (E.written errors.old) (E.written errors.new) }
 {
     if error.kind() == io::ErrorKind::OutOfMemory {
@@ -208,7 +208,7 @@ pub fn run_program<'a, R: Threads + Wait + Sync, S: AsStr, O: ScriptOut, E: Scri
     requires tellable { E.failed errors.old + 1 < 2 ^ 64 }
     ensures known { IsRunStatus result }
     ensures ran { run_faults (map S.text words.entry.now) ≡ [] → result ≢ 70
-        → RanBy (map S.text words.entry.now) (O.written writer.old) (O.written writer.new) result }
+        → FilesRunBy (map S.text words.entry.now) (O.written writer.old) (O.written writer.new) result }
     ensures asked { run_faults (map S.text words.entry.now) ≢ [] → result ≢ 70 → result ≢ 64
         → asks_text (run_faults (map S.text words.entry.now)) ≡ true }
     ensures shown { run_faults (map S.text words.entry.now) ≢ [] → result ≢ 70 → result ≢ 64
@@ -217,7 +217,7 @@ pub fn run_program<'a, R: Threads + Wait + Sync, S: AsStr, O: ScriptOut, E: Scri
     ensures explained { result ≡ 64 → Complains (E.failed errors.old) (E.failed errors.new)
         (E.written errors.old) (E.written errors.new) }
     ensures unwritten { result ≡ 64 → writer.new ≡ writer.old }
-    ensures failed { result ≡ 70 → (failure : Failure) × TellsOf failure (E.failed errors.old)
+    ensures failed { result ≡ 70 → (failure : Failure) × WritesFailure failure (E.failed errors.old)
         (E.failed errors.new) (E.written errors.old) (E.written errors.new) }
 {
     match read_run_options(host.alloc(), words) {

@@ -4,13 +4,13 @@ ghost use Rattle.std.specs.Option.{option_map};
 ghost use Rattle.ws_command.specs.Lines.{lines_of};
 ghost use Rattle.ws_command.specs.Commands.{text_of};
 ghost use Rattle.ws_command.specs.Pieces.{without_newline};
-ghost use Rattle.ws_command.specs.Seen.{seen};
+ghost use Rattle.ws_command.specs.Views.{command_view};
 ghost use Rattle.ws_keep.specs.Keeping.{is_change, is_refusal, kept_lines};
 ghost use Rattle.goset_cli.specs.KeptRuns.{AnsweredFrom, AnsweredSomeFrom};
 ghost use Rattle.goset_cli.specs.Requests.{AreLines, IsFirst};
-ghost use Rattle.goset_cli.specs.Told.{Grows};
+ghost use Rattle.goset_cli.specs.Streams.{GrowsBy};
 ghost use Rattle.goset_cli.specs.Ends.{SessionFrom};
-ghost use Rattle.goset_cli.specs.Failures.{failed_writes, failed_reads, unwritten};
+ghost use Rattle.goset_cli.specs.Failures.{failed_writes, failed_reads, unwritten_count};
 ghost use Rattle.goset_cli.specs.Answers.{unread, unanswered};
 ghost use Rattle.goset_cli.specs.declared.running.AnswerError.TheVariants.{Memory, Write};
 
@@ -100,9 +100,9 @@ pub struct Request<'a> {
     pub behind: &'a [u8],
 }
 
-/// The text of so many lines, where there are so many, and what is left behind it: nothing, where
-/// there aren't. An `Err` is want of memory.
-pub fn take_text(
+/// Splits a text of so many lines off a script, and gives it with the rest. If there are fewer lines,
+/// there is no text, and the rest is empty. An `Err` is want of memory.
+pub fn split_text(
     alloc: Global,
     script: &[u8],
     lines: u64,
@@ -140,13 +140,13 @@ fn without_newline(line: &[u8]) -> &[u8]
 pub fn first_request(alloc: Global, script: &[u8]) -> Result<Request<'_>, AllocError>
     requires { 0 < length script.now }
     ensures first { IfOk result (λ request.
-        IsFirst script.now (seen request.asked)
+        IsFirst script.now (command_view request.asked)
         (option_map (λ v. v.items) request.text) request.lines.now request.behind.now) }
     ensures some { IfOk result (λ request. 0 < length request.lines.now) }
 {
     let (line, behind) = cut_line(script);
     let asked = ask(alloc, without_newline(line))?;
-    let (text, behind) = take_text(alloc, behind, asked.text_lines())?;
+    let (text, behind) = split_text(alloc, behind, asked.text_lines())?;
     let (lines, _) = script.split_at(script.len() - behind.len());
     Ok(Request {
         asked,
@@ -158,7 +158,7 @@ pub fn first_request(alloc: Global, script: &[u8]) -> Result<Request<'_>, AllocE
 
 /// Whether a command that prints this is kept: it changes something, and isn't refused.
 fn is_kept(asked: &Asked<'_>, told: &[u8]) -> bool
-    ensures { result ≡ (is_change (seen asked.now) && not (is_refusal told.now)) }
+    ensures { result ≡ (is_change (command_view asked.now) && not (is_refusal told.now)) }
 {
     is_change(asked) && !told.starts_with(b"refused ")
 }
@@ -171,8 +171,8 @@ fn enter<J: Journal>(
     told: &[u8],
     lines: &[u8],
 ) -> Result<(), AllocError>
-    ensures { OnOk result (Grows (J.taken journal.old) (J.taken journal.new)
-        (kept_lines (seen asked.now) told.now lines.now)) }
+    ensures { OnOk result (GrowsBy (J.taken journal.old) (J.taken journal.new)
+        (kept_lines (command_view asked.now) told.now lines.now)) }
 {
     if is_kept(asked, told) {
         return journal.push(lines);
@@ -202,7 +202,7 @@ pub fn answer<R: Threads + Wait + Sync, O: ScriptOut, J: Journal, G: Gate>(
         (O.written writer.new) (J.taken journal.old) (J.taken journal.new) replicas.new) }
     ensures err { OnErr result (AnsweredSomeFrom replicas.old script.now
         (O.written writer.old) (O.written writer.new)) }
-    ensures failed { O.failed writer.new ≡ O.failed writer.old + unwritten result }
+    ensures failed { O.failed writer.new ≡ O.failed writer.old + unwritten_count result }
 {
     let mut rest = script;
     'commands: while !rest.is_empty() {

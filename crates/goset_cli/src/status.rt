@@ -1,6 +1,6 @@
 //! How the program ends.
 ghost use Rattle.std.specs.Prelude.{◌≡◌};
-ghost use Rattle.goset_cli.specs.Statuses.{code_of};
+ghost use Rattle.goset_cli.specs.Statuses.{exit_code};
 
 /// How the program ends, where it doesn't fail.
 #[derive(Clone, Copy, Debug, PartialEq, Eq)]
@@ -11,10 +11,9 @@ pub enum Status {
     Misused,
 }
 
-/// What the system is told: 0 where all is done, 1 where the program failed, and 2 where its words
-/// are wrong.
+/// The exit status: 0 if all is done, 1 if the program failed, and 2 if its words are wrong.
 pub fn code_of<E: Copy>(ended: Result<Status, E>) -> u8
-    ensures { result ≡ code_of ended }
+    ensures { result ≡ exit_code ended }
 {
     match ended {
         Ok(Status::Done) => 0,

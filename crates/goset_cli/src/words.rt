@@ -2,10 +2,10 @@
 ghost use Rattle.std.specs.Prelude.{◌≡◌, ◌≤◌, [], IfOk, codes, false, map, option_map, unwrap_or};
 ghost use Rattle.std.specs.List.{list_any};
 ghost use Rattle.clap.specs.Words.{FailsBy, IsPlain, IsPlainArg, app_of, found_of, matched_of, raw_values, rule_of};
-ghost use Rattle.goset_cli.specs.CommandLine.{edition_at, edition_of, edition_option, faults, file_argument, goset, is_run};
-ghost use Rattle.goset_cli.specs.CommandLine.{plain_option, run, run_edition_of, run_faults, run_files_of, ticks_of, valued, wants_plain};
+ghost use Rattle.goset_cli.specs.CommandLine.{edition_at, edition_option_of, edition_option, option_faults, file_argument, goset, is_run_word};
+ghost use Rattle.goset_cli.specs.CommandLine.{plain_option, run_app, run_edition_of, run_faults, run_files_of, ticks_of, value_option, wants_plain};
 ghost use Rattle.goset_cli.specs.CommandLine.{words_of_run, workers_of, workers_option};
-ghost use Rattle.goset_cli.specs.CommandLine.{asks_to_keep, expect_option, expected_of, keep, keep_edition_of, keep_faults, keep_name_of, keep_option};
+ghost use Rattle.goset_cli.specs.CommandLine.{asks_to_keep, expect_option, expected_digest, keep, keep_edition_of, keep_faults, keep_name_of, keep_option};
 ghost use Rattle.goset_cli.specs.CommandLine.{keep_workers_of, names_keep};
 
 use crate::keeping::KeepOptions;
@@ -15,10 +15,10 @@ use go_text::edition::Edition;
 use std::alloc::{AllocError, Global};
 use std::convert::AsStr;
 
-/// How many workers a session has that isn't told.
+/// How many workers a session has by default.
 const WORKERS: u8 = 4;
 
-/// The number of the edition that isn't told.
+/// The number of the default edition.
 const EDITION: u8 = 1;
 
 /// Which version of the program it is.
@@ -89,7 +89,7 @@ fn names_keep(word: &str) -> bool
 
 // Whether `run` is the first of words.
 fn is_run<S: AsStr>(words: &[S]) -> bool
-    ensures { result ≡ is_run (map S.text words.now) }
+    ensures { result ≡ is_run_word (map S.text words.now) }
 {
     match words {
         [first, ..] => first.as_str() == "run",
@@ -99,7 +99,7 @@ fn is_run<S: AsStr>(words: &[S]) -> bool
 
 // An option that takes a value.
 fn option<'a>(alloc: Global, name: &'a str, values: ValueParser<'a>, help: &'a str) -> Arg<'a>
-    ensures rule { rule_of result ≡ valued name.entry.now values.entry }
+    ensures rule { rule_of result ≡ value_option name.entry.now values.entry }
     ensures plain { IsPlainArg result }
     ensures local { result.global ≡ false }
 {
@@ -233,7 +233,7 @@ fn file_argument<'a>(alloc: Global) -> Arg<'a>
 // What clap is to read of the words behind the program's name, of which the first is `run`. An
 // `Err` is want of memory.
 fn run_command<'a>(alloc: Global) -> Result<Command<'a>, AllocError>
-    ensures app { IfOk result (λ command. app_of command ≡ run) }
+    ensures app { IfOk result (λ command. app_of command ≡ run_app) }
     ensures plain { IfOk result IsPlain }
 {
     let ticks = option(
@@ -277,8 +277,8 @@ pub fn read_options<'a, S: AsStr>(alloc: Global, words: &'a [S]) -> Result<Optio
     ensures workers { IfOk result (λ options. options.workers ≡ workers_of (map S.text words.entry.now)) }
     ensures some { IfOk result (λ options. 1 ≤ options.workers) }
     ensures few { IfOk result (λ options. options.workers ≤ 64) }
-    ensures edition { IfOk result (λ options. options.edition ≡ edition_of (map S.text words.entry.now)) }
-    ensures refusals { FailsBy (faults (map S.text words.entry.now)) result }
+    ensures edition { IfOk result (λ options. options.edition ≡ edition_option_of (map S.text words.entry.now)) }
+    ensures refusals { FailsBy (option_faults (map S.text words.entry.now)) result }
 {
     let program = session_command(alloc)?;
     let matches = program.try_get_matches_from(words)?;
@@ -335,7 +335,7 @@ pub fn read_keep_options<'a, S: AsStr>(
     ensures name { IfOk result (λ options. options.name.now ≡ keep_name_of (map S.text words.entry.now)) }
     ensures edition { IfOk result (λ options. options.edition ≡ keep_edition_of (map S.text words.entry.now)) }
     ensures expected { IfOk result (λ options. option_map (λ digest. digest.now) options.expected
-        ≡ expected_of (map S.text words.entry.now)) }
+        ≡ expected_digest (map S.text words.entry.now)) }
     ensures workers { IfOk result (λ options. options.workers ≡ keep_workers_of (map S.text words.entry.now)) }
     ensures some { IfOk result (λ options. 1 ≤ options.workers) }
     ensures few { IfOk result (λ options. options.workers ≤ 64) }

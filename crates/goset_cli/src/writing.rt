@@ -1,7 +1,7 @@
 //! Writing bytes, however few of them each write takes.
 ghost use Rattle.std.specs.Prelude.{◌≡◌, ℕ, ◌+◌, ◌<◌, ◌≤◌, ◌^◌, List, length, take, Option, IfOk, OnOk, OnErr};
-ghost use Rattle.goset_cli.specs.Statuses.{Tells};
-ghost use Rattle.goset_cli.specs.Told.{taken_by, read_failures, write_failures, Grows};
+ghost use Rattle.goset_cli.specs.Statuses.{WritesOut};
+ghost use Rattle.goset_cli.specs.Streams.{taken_by, read_failures, write_failures, GrowsBy};
 
 use crate::reading::EndFault;
 
@@ -22,16 +22,16 @@ pub trait ScriptOut {
     fn write(&mut self, bytes: &[u8]) -> Result<usize, EndFault>
         requires { failed self.old + 1 < 2 ^ 64 }
         ensures within { IfOk result (λ n. n ≤ length bytes.now) }
-        ensures takes { Grows (written self.old) (written self.new) (taken_by result bytes.now) }
+        ensures takes { GrowsBy (written self.old) (written self.new) (taken_by result bytes.now) }
         ensures counts { failed self.new ≡ failed self.old + write_failures result bytes.now };
 }
 
 /// Writes all of the bytes. On an `Err` a write failed, and a beginning of them is written.
 pub fn write_whole<W: ScriptOut>(writer: &mut W, bytes: &[u8]) -> Result<(), EndFault>
     requires { W.failed writer.old + 1 < 2 ^ 64 }
-    ensures ok { OnOk result (Grows (W.written writer.old) (W.written writer.new) bytes.now) }
+    ensures ok { OnOk result (GrowsBy (W.written writer.old) (W.written writer.new) bytes.now) }
     ensures err { OnErr result
-        ((n : ℕ) × Grows (W.written writer.old) (W.written writer.new) (take n bytes.now)) }
+        ((n : ℕ) × GrowsBy (W.written writer.old) (W.written writer.new) (take n bytes.now)) }
     ensures failed { W.failed writer.new ≡ W.failed writer.old + read_failures result }
 {
     let mut done = 0;
@@ -49,7 +49,7 @@ pub fn write_whole<W: ScriptOut>(writer: &mut W, bytes: &[u8]) -> Result<(), End
 /// Writes bytes as far as the writer takes them.
 pub fn tell<W: ScriptOut>(writer: &mut W, bytes: &[u8])
     requires { W.failed writer.old + 1 < 2 ^ 64 }
-    ensures { Tells bytes.now (W.failed writer.old) (W.failed writer.new)
+    ensures { WritesOut bytes.now (W.failed writer.old) (W.failed writer.new)
         (W.written writer.old) (W.written writer.new) }
 {
     let _ = write_whole(writer, bytes);

@@ -1,4 +1,4 @@
-//! Answers rows about the language: texts and their tokens, packages and their faults, values and summaries, scopes, and the
+//! Answers to rows about the language: texts and their tokens, packages and their faults, values and summaries, scopes, and the
 //! machine's images.
 #![tactic(auto)]
 

@@ -1,4 +1,4 @@
-//! Tables of rows that a program answers, each with what is wanted beside it.
+//! Tables of questions, each with the answer that is wanted.
 //!
 //! A table is text, line by line:
 //!

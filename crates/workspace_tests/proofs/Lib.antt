@@ -1,2 +1,2 @@
-pub mod Captures
-pub mod Tells
+mod Captures
+mod Tells

@@ -1,7 +1,7 @@
-//! Two hands of a shared board in one thread, and how many hands find something to do.
+//! Two workers of a shared board in one thread, and how many workers find something to do.
 ghost use Rattle.std.specs.Prelude.{◌≡◌, IfOk, IfSome};
 ghost use Rattle.std.specs.FinMap.{empty};
-ghost use Rattle.ws_board.specs.Ends.{Comes};
+ghost use Rattle.ws_board.specs.Ends.{MayBeResult};
 
 use go_parse::parse_source;
 use go_text::edition::Edition;
@@ -15,7 +15,7 @@ use ws_action::Files;
 use ws_board::{Board, Event, Job, Task, Work};
 use ws_cache::{Cache, Entry};
 use ws_pool::{Gate, Plain, build_jobs};
-use ws_shared::{Blanks, Desk, SharedBoard, SharedHand};
+use ws_shared::{Blanks, Desk, SharedBoard, Worker};
 
 /// The job of a directory with one file, which imports nothing.
 fn job(alloc: Global, path: &str, text: &str) -> Result<Job, Fail> {
@@ -37,14 +37,14 @@ fn jobs(alloc: Global) -> Result<Vec<Job>, Fail> {
     Ok(jobs)
 }
 
-/// The hand's next task, at its second asking where the first was refused memory. None: nothing is
+/// The worker's next task, at its second asking where the first was refused memory. None: nothing is
 /// left. An `Err` comes where it runs one, too.
 fn takes<L: Desk, R: Wait>(
     rt: &R,
     board: &SharedBoard<L>,
-    hand: &mut SharedHand<L>,
+    hand: &mut Worker<L>,
 ) -> Result<Option<Task>, AllocError>
-    ensures { IfOk result (λ told. IfSome told (λ task. Comes L.opening task.action)) }
+    ensures { IfOk result (λ told. IfSome told (λ task. MayBeResult L.opening task.action)) }
 {
     if hand.runs().is_some() {
         return Err(AllocError);
@@ -58,11 +58,11 @@ fn takes<L: Desk, R: Wait>(
     board.take(rt, hand)
 }
 
-/// Whether the hand is told that nothing is left.
+/// Whether the worker is told that nothing is left.
 fn idles<L: Desk, R: Wait>(
     rt: &R,
     board: &SharedBoard<L>,
-    hand: &mut SharedHand<L>,
+    hand: &mut Worker<L>,
 ) -> Result<bool, AllocError> {
     match takes(rt, board, hand)? {
         None => Ok(true),
@@ -81,16 +81,16 @@ fn compiled(task: &Task) -> Option<Entry>
     Plain.compile(action).ok()
 }
 
-/// Whether the hand's finish is done, at the second time where the first was refused memory.
+/// Whether the worker's finish is done, at the second time where the first was refused memory.
 fn finishes<L: Desk, R: Wait>(
     rt: &R,
     board: &SharedBoard<L>,
-    hand: &mut SharedHand<L>,
+    hand: &mut Worker<L>,
     task: Task,
     entry: Entry,
 ) -> bool
     requires fits { entry ≡ task.action }
-    requires own { Comes L.opening task.action }
+    requires own { MayBeResult L.opening task.action }
 {
     let Err((task, entry)) = board.finish(rt, hand, task, entry) else {
         return true;
@@ -102,15 +102,15 @@ fn finishes<L: Desk, R: Wait>(
     false
 }
 
-/// Whether another hand's finish of the task gives it back, and that of its own is done.
+/// Whether another worker's finish of the task gives it back, and that of its own is done.
 fn finishes_behind<L: Desk, R: Wait>(
     rt: &R,
     board: &SharedBoard<L>,
-    hand: &mut SharedHand<L>,
-    other: &mut SharedHand<L>,
+    hand: &mut Worker<L>,
+    other: &mut Worker<L>,
     task: Task,
 ) -> bool
-    requires own { Comes L.opening task.action }
+    requires own { MayBeResult L.opening task.action }
 {
     let Some(entry) = compiled(&task) else {
         board.back(rt, hand, task);
@@ -122,12 +122,12 @@ fn finishes_behind<L: Desk, R: Wait>(
     }
 }
 
-/// Whether two hands take a job each, and each finishes its own alone.
+/// Whether two workers take a job each, and each finishes its own alone.
 fn share<L: Desk, R: Wait>(
     rt: &R,
     board: &SharedBoard<L>,
-    first: &mut SharedHand<L>,
-    second: &mut SharedHand<L>,
+    first: &mut Worker<L>,
+    second: &mut Worker<L>,
 ) -> Result<bool, AllocError> {
     let Some(task) = takes(rt, board, first)? else {
         return Ok(false);
@@ -141,7 +141,7 @@ fn share<L: Desk, R: Wait>(
     Ok(is_first && is_second)
 }
 
-/// The board of those jobs, once two hands have done them and were told that nothing is left. None:
+/// The board of those jobs, once two workers have done them and were told that nothing is left. None:
 /// they weren't told so.
 fn closed<L: Desk, R: Wait>(
     rt: &R,
@@ -166,7 +166,7 @@ fn closed<L: Desk, R: Wait>(
     Ok(Some(board.close(hands)))
 }
 
-/// What two hands did, in order.
+/// What two workers did, in order.
 pub(crate) fn hands_alone<R: Wait>(rt: &R, alloc: Global) -> Result<String, Fail> {
     let jobs = jobs(alloc)?;
     let blanks = Blanks::new(2);
@@ -179,7 +179,7 @@ pub(crate) fn hands_alone<R: Wait>(rt: &R, alloc: Global) -> Result<String, Fail
     Ok(format!(in alloc; "{:?}", board.built().history())?)
 }
 
-/// How many hands were told that nothing is left.
+/// How many workers were told that nothing is left.
 fn idle_hands(history: &[Event]) -> usize {
     history
         .iter()
@@ -187,7 +187,7 @@ fn idle_hands(history: &[Event]) -> usize {
         .count()
 }
 
-/// How many of four hands two jobs take, and how many jobs are compiled: over nothing, and over what
+/// How many of four workers two jobs take, and how many jobs are compiled: over nothing, and over what
 /// that added.
 pub(crate) fn spare_hands<R: Threads + Wait + Sync>(rt: &R, alloc: Global) -> Result<String, Fail> {
     let first = build_jobs(rt, alloc, jobs(alloc)?, Cache::new(alloc), 4, &Plain)?;

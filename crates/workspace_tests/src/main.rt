@@ -1,5 +1,5 @@
-//! Answers rows about what no script shows: workers at gates, the hands of a board, builds by snapshots, and a reader
-//! that remembers what it told.
+//! Answers to rows about what no script shows: workers at gates, the workers of a board, builds by snapshots, and a
+//! reader that remembers what it gave.
 #![tactic(auto)]
 
 mod asking;

@@ -3,7 +3,7 @@ ghost use Rattle.std.specs.Prelude.{◌≡◌, ◌+◌, ◌<◌, ◌^◌, [], �
 ghost use Rattle.std.specs.Option.{option_map};
 ghost use Rattle.go_text.specs.declared.edition.Edition.TheVariants.{One};
 ghost use Rattle.goset_cli.specs.Ends.{Wrote};
-ghost use Rattle.workspace_tests.specs.Remembered.{all_shown, bytes_of, events, shown};
+ghost use Rattle.workspace_tests.specs.Remembered.{all_shown, bytes_read, events, read_event};
 
 use go_text::edition::Edition;
 use goset_cli::ends::ToWriter;
@@ -45,7 +45,7 @@ impl<'a> Remembering<'a> {
 
     /// Remembers some bytes, or the end. An `Err`, for want of memory, changes nothing.
     fn remember(&mut self, bytes: Option<&[u8]>) -> Result<(), AllocError>
-        ensures ok { OnOk result (all_shown self.new.told.items ≡ all_shown self.old.told.items ++ shown (option_map (λ b. b.now) bytes.entry) ∷ []) }
+        ensures ok { OnOk result (all_shown self.new.told.items ≡ all_shown self.old.told.items ++ read_event (option_map (λ b. b.now) bytes.entry) ∷ []) }
         ensures err { OnErr result (all_shown self.new.told.items ≡ all_shown self.old.told.items) }
         ensures failed { self.new.failed ≡ self.old.failed }
     {
@@ -103,7 +103,7 @@ fn retell<R: Threads + Wait + Sync, O: ScriptOut>(
 ) -> Result<(), SessionError>
     requires fresh { (reader.old.told.items ≡ []) × (reader.old.failed ≡ 0) }
     requires writable { O.failed writer.old + 1 < 2 ^ 64 }
-    ensures { OnOk result (Wrote One (bytes_of (events reader.new.told.items reader.new.failed))
+    ensures { OnOk result (Wrote One (bytes_read (events reader.new.told.items reader.new.failed))
         (O.written writer.old) (O.written writer.new)) }
 {
     run_script(rt, alloc, reader, writer, 2, Edition::One, &Plain)

@@ -15,17 +15,17 @@ use Rattle.std.proofs.lemmas.List.Kept.{Any-dedup, Contains-from_dedup, IsStrict
 use Rattle.std.proofs.lemmas.List.Sorted.{Contains-permutation, IsPermutation-sym}
 use Rattle.go_ast.specs.Parse.{Parsed}
 use Rattle.go_export.specs.Summaries.{Summary}
-use Rattle.ws_action.specs.Actions.{import_of, bytes_cmp, ascends, HasSummary, AreImports}
+use Rattle.ws_action.specs.Actions.{named_summary, text_cmp, ascends, HasSummary, AreSummariesOfImports}
 use Rattle.ws_action.specs.Imported.{AreImported, AreImportPaths}
 use Rattle.ws_action.proofs.Ascending.{rises, one_ascending}
 use Rattle.ws_action.proofs.Mapped.{Contains-mapped, mapped_from}
 
 module _ {X : Type 0} (f : X → List ℕ) where
-  all_mapped : (x : X) (ys : List X) → AllByRecursion (λ y. bytes_cmp (f x) (f y) ≡ Less) ys → AllByRecursion (λ q. bytes_cmp (f x) q ≡ Less) (map f ys)
+  all_mapped : (x : X) (ys : List X) → AllByRecursion (λ y. text_cmp (f x) (f y) ≡ Less) ys → AllByRecursion (λ q. text_cmp (f x) q ≡ Less) (map f ys)
   all_mapped x [] h = tt
   all_mapped x (y ∷ ys) h = (h.0, all_mapped x ys h.1)
 
-  sorted_mapped : (xs : List X) → IsStrictlySortedBy (λ x y. bytes_cmp (f x) (f y)) xs → IsStrictlySortedBy bytes_cmp (map f xs)
+  sorted_mapped : (xs : List X) → IsStrictlySortedBy (λ x y. text_cmp (f x) (f y)) xs → IsStrictlySortedBy text_cmp (map f xs)
   unfolding IsStrictlySortedBy
   sorted_mapped [] h = tt
   sorted_mapped (x ∷ xs) h = (all_mapped x xs h.0, sorted_mapped xs h.1)
@@ -33,9 +33,9 @@ module _ {X : Type 0} (f : X → List ℕ) where
   -- sorted, and each once: they ascend, and the members stay
   pub paths_sorted : (files : List Parsed) (all sorted new : List X) (paths : List (List ℕ)) → AreImported files (map f all) → IsPermutation all sorted → IsSorted (λ x y. slice_cmp nat_cmp (f x) (f y)) sorted → new ≡ dedup (λ x y. bytes_eq (f x) (f y)) sorted → paths ≡ map f new → AreImportPaths files paths
   paths_sorted files all sorted new paths are moved ordered kept shown =
-      let rising : IsStrictlySortedBy (λ x y. bytes_cmp (f x) (f y)) new = subst (IsStrictlySortedBy (λ x y. bytes_cmp (f x) (f y))) (sym kept) (IsStrictlySortedBy-dedup (on_texts f) (λ x y. texts_ties (f x) (f y)) sorted ordered) in
+      let rising : IsStrictlySortedBy (λ x y. text_cmp (f x) (f y)) new = subst (IsStrictlySortedBy (λ x y. text_cmp (f x) (f y))) (sym kept) (IsStrictlySortedBy-dedup (on_texts f) (λ x y. texts_ties (f x) (f y)) sorted ordered) in
       record {
-        ascend = subst (IsStrictlySortedBy bytes_cmp) (sym shown) (sorted_mapped new rising);
+        ascend = subst (IsStrictlySortedBy text_cmp) (sym shown) (sorted_mapped new rising);
         imported = record {
           all = λ path imported. (
               let x = mapped_from f all path (are.all path imported) in
@@ -63,19 +63,19 @@ summary_at summaries path c = mapped_from (λ (s : Summary). s.path) summaries p
 path_at : (summaries : List Summary) (path : List ℕ) → HasSummary summaries path → Contains (paths_of summaries) path
 path_at summaries path h = subst (Contains (paths_of summaries)) h.2 (Contains-mapped (λ (s : Summary). s.path) summaries h.0 h.1)
 
-same_paths : (files : List Parsed) (summaries : List Summary) (paths : List (List ℕ)) → AreImportPaths files paths → paths_of summaries ≡ paths → AreImports files summaries
+same_paths : (files : List Parsed) (summaries : List Summary) (paths : List (List ℕ)) → AreImportPaths files paths → paths_of summaries ≡ paths → AreSummariesOfImports files summaries
 same_paths files summaries paths are same = record {
   all = λ path imported. summary_at summaries path (subst (λ (l : List (List ℕ)). Contains l path) (sym same) (are.imported.all path imported));
   only = λ path h. are.imported.only path (subst (λ (l : List (List ℕ)). Contains l path) same (path_at summaries path h));
 }
 
-names_are : (summaries : List Summary) → map (λ n. n.0) (map import_of summaries) ≡ paths_of summaries
+names_are : (summaries : List Summary) → map (λ n. n.0) (map named_summary summaries) ≡ paths_of summaries
 names_are [] = refl
 names_are (s ∷ ss) = ap (λ (l : List (List ℕ)). s.path ∷ l) (names_are ss)
 
-other_paths : (files : List Parsed) (summaries : List Summary) (paths : List (List ℕ)) → AreImportPaths files paths → paths_of summaries ≢ paths → ascends (map import_of summaries) ≡ true → AreImports files summaries → ⊥
+other_paths : (files : List Parsed) (summaries : List Summary) (paths : List (List ℕ)) → AreImportPaths files paths → paths_of summaries ≢ paths → ascends (map named_summary summaries) ≡ true → AreSummariesOfImports files summaries → ⊥
 other_paths files summaries paths are other rise imports =
-    let ascend : IsStrictlySortedBy bytes_cmp (paths_of summaries) = subst (IsStrictlySortedBy bytes_cmp) (names_are summaries) (rises (map import_of summaries) rise) in
+    let ascend : IsStrictlySortedBy text_cmp (paths_of summaries) = subst (IsStrictlySortedBy text_cmp) (names_are summaries) (rises (map named_summary summaries) rise) in
     other (one_ascending (paths_of summaries) paths ascend are.ascend
     (λ path c. are.imported.all path (imports.only path (summary_at summaries path c)))
     (λ path c. path_at summaries path (imports.all path (are.imported.only path c))))
@@ -87,10 +87,10 @@ shared_paths (x ∷ xs) = ap (λ (l : List (List ℕ)). (arc_value x).path ∷ l
 
 -- ---- as a test says
 
-pub imports_are : (is : Bool) (files : List Parsed) (summaries : List Summary) (paths : List (List ℕ)) → AreImportPaths files paths → OnTrue is (paths_of summaries ≡ paths) → OnTrue is (AreImports files summaries)
+pub imports_are : (is : Bool) (files : List Parsed) (summaries : List Summary) (paths : List (List ℕ)) → AreImportPaths files paths → OnTrue is (paths_of summaries ≡ paths) → OnTrue is (AreSummariesOfImports files summaries)
 imports_are true files summaries paths are same = same_paths files summaries paths are same
 imports_are false files summaries paths are same = tt
 
-pub imports_differ : (is : Bool) (files : List Parsed) (summaries : List Summary) (paths : List (List ℕ)) → AreImportPaths files paths → OnFalse is (paths_of summaries ≢ paths) → OnFalse is (ascends (map import_of summaries) ≡ true → AreImports files summaries → ⊥)
+pub imports_differ : (is : Bool) (files : List Parsed) (summaries : List Summary) (paths : List (List ℕ)) → AreImportPaths files paths → OnFalse is (paths_of summaries ≢ paths) → OnFalse is (ascends (map named_summary summaries) ≡ true → AreSummariesOfImports files summaries → ⊥)
 imports_differ true files summaries paths are other = tt
 imports_differ false files summaries paths are other = other_paths files summaries paths are other

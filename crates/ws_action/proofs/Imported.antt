@@ -10,7 +10,7 @@ use Rattle.go_ast.specs.Views.{import_of, file_of}
 use Rattle.go_ast.specs.declared.file.File.{File as RustFile}
 use Rattle.go_ast.specs.declared.file.ImportSpec.{ImportSpec as RustSpec}
 use Rattle.go_ast.proofs.Once.{one_parse}
-use Rattle.ws_action.specs.Actions.{Imports, IsImported}
+use Rattle.ws_action.specs.Actions.{TextImports, IsImported}
 use Rattle.ws_action.specs.Imported.{AddsImports, AreImported}
 use Rattle.ws_action.proofs.Mapped.{All-mapped, Contains-mapped}
 use Rattle.ws_action.proofs.Members.{none_in_empty}
@@ -25,12 +25,12 @@ unfolding tree_in
 one_tree e text a b p q = ap (tree_in a) (one_parse e text (Derived a) (Derived b) p q)
 
 -- a spec of the file's tree
-pub imports_it : (e : Edition) (text path : List ℕ) (file : RustFile) (spec : RustSpec) → IsParse e text (Derived (file_of file)) → Contains file.imports.items spec → spec.path.items ≡ path → path ≢ codes "fmt" → Imports e text path
+pub imports_it : (e : Edition) (text path : List ℕ) (file : RustFile) (spec : RustSpec) → IsParse e text (Derived (file_of file)) → Contains file.imports.items spec → spec.path.items ≡ path → path ≢ codes "fmt" → TextImports e text path
 imports_it e text path file spec parse among is other =
     record { tree = file_of file; parse = parse; spec = import_of spec; among = Contains-mapped import_of file.imports.items spec among; is = is; other = other }
 
 -- what holds of the path of each spec, but for those of the library, holds of what the file imports
-pub imports_all : (P : List ℕ → Type 0) (e : Edition) (text path : List ℕ) (file : RustFile) → IsParse e text (Derived (file_of file)) → All (λ (spec : RustSpec). spec.path.items ≢ codes "fmt" → P spec.path.items) file.imports.items → Imports e text path → P path
+pub imports_all : (P : List ℕ → Type 0) (e : Edition) (text path : List ℕ) (file : RustFile) → IsParse e text (Derived (file_of file)) → All (λ (spec : RustSpec). spec.path.items ≢ codes "fmt" → P spec.path.items) file.imports.items → TextImports e text path → P path
 imports_all P e text path file parse all i =
     let same : i.tree ≡ file_of file = one_tree e text i.tree (file_of file) i.parse parse in
     let among : Contains (map import_of file.imports.items) i.spec = subst (λ (t : File). Contains t.imports i.spec) same i.among in
@@ -44,7 +44,7 @@ imports_all P e text path file parse all i =
 pub record AddsSpecs (specs : List RustSpec) (e : Edition) (text : List ℕ) (old new : List (List ℕ)) : Type 0 where
   pub kept : (path : List ℕ) → Contains old path → Contains new path
   pub added : All (λ (spec : RustSpec). spec.path.items ≢ codes "fmt" → Contains new spec.path.items) specs
-  pub only : (path : List ℕ) → Contains new path → Contains old path ⊎ Imports e text path
+  pub only : (path : List ℕ) → Contains new path → Contains old path ⊎ TextImports e text path
 
 pub no_specs : (e : Edition) (text : List ℕ) (old : List (List ℕ)) → AddsSpecs [] e text old old
 no_specs e text old = record {
@@ -62,7 +62,7 @@ library_passed specs i spec e text old new h is library a = record {
 }
 
 -- another path is added
-pub path_added : (specs : List RustSpec) (i : ℕ) (spec : RustSpec) (e : Edition) (text : List ℕ) (old mid new : List (List ℕ)) → i < length specs → spec ≡ get_or specs i spec → Imports e text spec.path.items → new ≡ mid ++ spec.path.items ∷ [] → AddsSpecs (take i specs) e text old mid → AddsSpecs (take (i + 1) specs) e text old new
+pub path_added : (specs : List RustSpec) (i : ℕ) (spec : RustSpec) (e : Edition) (text : List ℕ) (old mid new : List (List ℕ)) → i < length specs → spec ≡ get_or specs i spec → TextImports e text spec.path.items → new ≡ mid ++ spec.path.items ∷ [] → AddsSpecs (take i specs) e text old mid → AddsSpecs (take (i + 1) specs) e text old new
 path_added specs i spec e text old mid new h is imports same a =
     let path = spec.path.items in
     let keeps : (p : List ℕ) → Contains mid p → Contains new p = λ p c. subst (λ (l : List (List ℕ)). Contains l p) (sym same) (Contains-append_left mid (path ∷ []) p c) in
@@ -70,7 +70,7 @@ path_added specs i spec e text old mid new h is imports same a =
     record {
       kept = λ p c. keeps p (a.kept p c);
       added = one_more (holds new) specs i spec h is (All-weaker (holds mid) (holds new) (λ s c other. keeps s.path.items (c other)) (take i specs) a.added) (λ other. subst (λ (l : List (List ℕ)). Contains l path) (sym same) (Contains-push mid path));
-      only = λ p c. elim (Contains-push_cases mid path p (subst (λ (l : List (List ℕ)). Contains l p) same c)) [ inl l ↦ a.only p l | inr q ↦ inr (subst (Imports e text) q imports) ];
+      only = λ p c. elim (Contains-push_cases mid path p (subst (λ (l : List (List ℕ)). Contains l p) same c)) [ inl l ↦ a.only p l | inr q ↦ inr (subst (TextImports e text) q imports) ];
     }
 
 -- those of all specs are those of the file
@@ -87,18 +87,18 @@ specs_added e text file specs i old new parse are over a =
 
 -- those of some of the files
 pub record AreFrom (some files : List Parsed) (paths : List (List ℕ)) : Type 0 where
-  pub all : All (λ (file : Parsed). (path : List ℕ) → Imports file.edition file.text path → Contains paths path) some
+  pub all : All (λ (file : Parsed). (path : List ℕ) → TextImports file.edition file.text path → Contains paths path) some
   pub only : (path : List ℕ) → Contains paths path → IsImported files path
 
 pub from_none : (files : List Parsed) (paths : List (List ℕ)) → paths ≡ [] → AreFrom [] files paths
 from_none files paths none = record {
-  all = All-nil (λ (file : Parsed). (path : List ℕ) → Imports file.edition file.text path → Contains paths path);
+  all = All-nil (λ (file : Parsed). (path : List ℕ) → TextImports file.edition file.text path → Contains paths path);
   only = λ path c. absurd (none_in_empty path (subst (λ (l : List (List ℕ)). Contains l path) none c));
 }
 
 pub from_more : (files : List Parsed) (i : ℕ) (file : Parsed) (old new : List (List ℕ)) → i < length files → file ≡ get_or files i file → Contains files file → AddsImports file.edition file.text old new → AreFrom (take i files) files old → AreFrom (take (i + 1) files) files new
 from_more files i file old new h is among a are =
-    let holds : List (List ℕ) → Parsed → Type 0 = λ paths f. (path : List ℕ) → Imports f.edition f.text path → Contains paths path in
+    let holds : List (List ℕ) → Parsed → Type 0 = λ paths f. (path : List ℕ) → TextImports f.edition f.text path → Contains paths path in
     record {
       all = one_more (holds new) files i file h is (All-weaker (holds old) (holds new) (λ f c path imports. a.kept path (c path imports)) (take i files) are.all) a.added;
       only = λ path c. elim (a.only path c) [ inl l ↦ are.only path l | inr imports ↦ (file, among, imports) ];
@@ -106,7 +106,7 @@ from_more files i file old new h is among a are =
 
 pub from_all : (files : List Parsed) (i : ℕ) (paths : List (List ℕ)) → length files ≤ i → AreFrom (take i files) files paths → AreImported files paths
 from_all files i paths over are =
-    let holds : Parsed → Type 0 = λ f. (path : List ℕ) → Imports f.edition f.text path → Contains paths path in
+    let holds : Parsed → Type 0 = λ f. (path : List ℕ) → TextImports f.edition f.text path → Contains paths path in
     record {
       all = λ path imported. All-contains holds files imported.0 (of_all holds files i over are.all) imported.1 path imported.2;
       only = are.only;

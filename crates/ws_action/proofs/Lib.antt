@@ -10,4 +10,4 @@ mod ImportPaths
 mod Mapped
 mod Walks
 pub mod Crossing
-pub mod Editions
+mod Editions

@@ -13,7 +13,7 @@ use Rattle.ws_action.proofs.Editions.{number_small, one_number}
 use Rattle.go_export.specs.Fields.{be, field}
 use Rattle.go_export.proofs.Fields.{split_alike, be_parts, field_parts, digest_fits}
 use Rattle.ws_action.specs.Actions.{Named, Action, named_text, list_text, action_text, action_id, AreSized, IsSized}
-use Rattle.ws_action.specs.Clash.{NoClash, Includes, AllSized, texts_of, hashed, hashed_actions}
+use Rattle.ws_action.specs.Clash.{NoClash, Includes, AllSized, named_texts, hashed, hashed_actions}
 use Rattle.ws_action.proofs.Members.{none_in_empty, head_or_later, later, at_head}
 
 four : (a b c d : List ℕ) → ((a ++ b) ++ c) ++ d ≡ a ++ (b ++ (c ++ d))
@@ -38,25 +38,25 @@ abbrev pub Fits : Named → Type 0
 Fits n = length n.0 < 2 ^ 64
 
 -- as many files or imports, whose texts don't clash, are told, and so is what comes behind them
-all_parts : (T : List (List ℕ)) → NoClash T → (fs gs : List Named) (s t : List ℕ) → Includes T (texts_of fs) → Includes T (texts_of gs) → All Fits fs → All Fits gs → length fs ≡ length gs → flat_map named_text fs ++ s ≡ flat_map named_text gs ++ t → (fs ≡ gs) × (s ≡ t)
+all_parts : (T : List (List ℕ)) → NoClash T → (fs gs : List Named) (s t : List ℕ) → Includes T (named_texts fs) → Includes T (named_texts gs) → All Fits fs → All Fits gs → length fs ≡ length gs → flat_map named_text fs ++ s ≡ flat_map named_text gs ++ t → (fs ≡ gs) × (s ≡ t)
 all_parts T clear [] [] s t i j p q l e = (refl, e)
 all_parts T clear [] (g ∷ gs) s t i j p q l e = absurd (omega (arith, l))
 all_parts T clear (f ∷ fs) [] s t i j p q l e = absurd (omega (arith, l))
 all_parts T clear (f ∷ fs) (g ∷ gs) s t i j p q l e =
     let parts = named_parts f g (flat_map named_text fs) (flat_map named_text gs) s t (All-head Fits f fs p) (All-head Fits g gs q) e in
-    let texts : f.1 ≡ g.1 = clear f.1 g.1 (i f.1 (at_head (texts_of fs) f.1 f.1 refl)) (j g.1 (at_head (texts_of gs) g.1 g.1 refl)) parts.1 in
+    let texts : f.1 ≡ g.1 = clear f.1 g.1 (i f.1 (at_head (named_texts fs) f.1 f.1 refl)) (j g.1 (at_head (named_texts gs) g.1 g.1 refl)) parts.1 in
     let lengths : length fs ≡ length gs = omega (arith, l) in
-    let rest = all_parts T clear fs gs s t (λ x c. i x (later f.1 (texts_of fs) x c)) (λ x c. j x (later g.1 (texts_of gs) x c)) (All-tail Fits f fs p) (All-tail Fits g gs q) lengths parts.2 in
+    let rest = all_parts T clear fs gs s t (λ x c. i x (later f.1 (named_texts fs) x c)) (λ x c. j x (later g.1 (named_texts gs) x c)) (All-tail Fits f fs p) (All-tail Fits g gs q) lengths parts.2 in
     (ap (λ (n : List ℕ). (n, f.1) ∷ fs) parts.0 ∙ ap (λ (n : List ℕ). (g.0, n) ∷ fs) texts ∙ ap (λ (r : List Named). g ∷ r) rest.0, rest.1)
 
-list_parts : (T : List (List ℕ)) → NoClash T → (fs gs : List Named) (s t : List ℕ) → Includes T (texts_of fs) → Includes T (texts_of gs) → AreSized fs → AreSized gs → list_text fs ++ s ≡ list_text gs ++ t → (fs ≡ gs) × (s ≡ t)
+list_parts : (T : List (List ℕ)) → NoClash T → (fs gs : List Named) (s t : List ℕ) → Includes T (named_texts fs) → Includes T (named_texts gs) → AreSized fs → AreSized gs → list_text fs ++ s ≡ list_text gs ++ t → (fs ≡ gs) × (s ≡ t)
 list_parts T clear fs gs s t i j p q e =
     let whole : be (length fs) ++ (flat_map named_text fs ++ s) ≡ be (length gs) ++ (flat_map named_text gs ++ t) = sym (append_assoc (be (length fs)) (flat_map named_text fs) s) ∙ e ∙ append_assoc (be (length gs)) (flat_map named_text gs) t in
     let counts = be_parts (length fs) (length gs) _ _ p.count q.count whole in
     all_parts T clear fs gs s t i j p.names q.names counts.0 counts.1
 
 -- among texts of which no two clash, the text of an action tells the action
-pub text_tells : (T : List (List ℕ)) → NoClash T → (a b : Action) → IsSized a → IsSized b → Includes T (texts_of a.files ++ texts_of a.imports) → Includes T (texts_of b.files ++ texts_of b.imports) → action_text a ≡ action_text b → a ≡ b
+pub text_tells : (T : List (List ℕ)) → NoClash T → (a b : Action) → IsSized a → IsSized b → Includes T (named_texts a.files ++ named_texts a.imports) → Includes T (named_texts b.files ++ named_texts b.imports) → action_text a ≡ action_text b → a ≡ b
 unfolding action_text
 text_tells T clear a b p q i j e =
     let tag : List ℕ = field (codes "goset action") in
@@ -64,9 +64,9 @@ text_tells T clear a b p q i j e =
     let tags = split_alike tag tag _ _ refl whole in
     let editions = field_parts (decimal (edition_number a.edition)) (decimal (edition_number b.edition)) _ _ (decimal_fits (edition_number a.edition) (number_small a.edition)) (decimal_fits (edition_number b.edition) (number_small b.edition)) tags.1 in
     let paths = field_parts a.path b.path _ _ p.path q.path editions.1 in
-    let files = list_parts T clear a.files b.files (list_text a.imports) (list_text b.imports) (λ x c. i x (Contains-append_left (texts_of a.files) (texts_of a.imports) x c)) (λ x c. j x (Contains-append_left (texts_of b.files) (texts_of b.imports) x c)) p.files q.files paths.1 in
+    let files = list_parts T clear a.files b.files (list_text a.imports) (list_text b.imports) (λ x c. i x (Contains-append_left (named_texts a.files) (named_texts a.imports) x c)) (λ x c. j x (Contains-append_left (named_texts b.files) (named_texts b.imports) x c)) p.files q.files paths.1 in
     let ends : list_text a.imports ++ [] ≡ list_text b.imports ++ [] = ap (λ r. r ++ []) files.1 in
-    let imports = list_parts T clear a.imports b.imports [] [] (λ x c. i x (Contains-append_right (texts_of a.files) (texts_of a.imports) x c)) (λ x c. j x (Contains-append_right (texts_of b.files) (texts_of b.imports) x c)) p.imports q.imports ends in
+    let imports = list_parts T clear a.imports b.imports [] [] (λ x c. i x (Contains-append_right (named_texts a.files) (named_texts a.imports) x c)) (λ x c. j x (Contains-append_right (named_texts b.files) (named_texts b.imports) x c)) p.imports q.imports ends in
     let numbers : edition_number a.edition ≡ edition_number b.edition = decimal_injective (edition_number a.edition) (edition_number b.edition) (omega (arith, number_small a.edition)) (omega (arith, number_small b.edition)) editions.0 in
     ap (λ (n : Edition). record { edition = n; path = a.path; files = a.files; imports = a.imports }) (one_number a.edition b.edition numbers)
     ∙ ap (λ (n : List ℕ). record { edition = b.edition; path = n; files = a.files; imports = a.imports }) paths.0
@@ -88,5 +88,5 @@ unfolding action_id
 one_action T E clear among sized a b p q e =
     let first : Includes T (hashed a) = λ s h. among s (hashed_from E a p s h) in
     let second : Includes T (hashed b) = λ s h. among s (hashed_from E b q s h) in
-    let texts : action_text a ≡ action_text b = clear (action_text a) (action_text b) (first (action_text a) (at_head (texts_of a.files ++ texts_of a.imports) (action_text a) (action_text a) refl)) (second (action_text b) (at_head (texts_of b.files ++ texts_of b.imports) (action_text b) (action_text b) refl)) e in
-    text_tells T clear a b (sized a p) (sized b q) (λ s h. first s (later (action_text a) (texts_of a.files ++ texts_of a.imports) s h)) (λ s h. second s (later (action_text b) (texts_of b.files ++ texts_of b.imports) s h)) texts
+    let texts : action_text a ≡ action_text b = clear (action_text a) (action_text b) (first (action_text a) (at_head (named_texts a.files ++ named_texts a.imports) (action_text a) (action_text a) refl)) (second (action_text b) (at_head (named_texts b.files ++ named_texts b.imports) (action_text b) (action_text b) refl)) e in
+    text_tells T clear a b (sized a p) (sized b q) (λ s h. first s (later (action_text a) (named_texts a.files ++ named_texts a.imports) s h)) (λ s h. second s (later (action_text b) (named_texts b.files ++ named_texts b.imports) s h)) texts

@@ -10,7 +10,7 @@ use Rattle.std.proofs.Common.{ap, ◌∙◌}
 use Rattle.go_text.specs.declared.edition.Edition.{Edition}
 use Rattle.go_text.specs.Editions.{edition_number}
 use Rattle.ws_action.proofs.Editions.{one_number}
-use Rattle.ws_action.specs.Actions.{Named, bytes_cmp, named_cmp, import_cmp, contents_cmp, action_cmp}
+use Rattle.ws_action.specs.Actions.{Named, text_cmp, named_cmp, import_cmp, contents_cmp, action_cmp}
 
 named_cmp_total : IsTotalOrder named_cmp
 named_cmp_total = then_total (on_total (λ n. n.0) nat_list_cmp_total) (on_total (λ n. n.1) nat_list_cmp_total)
@@ -25,11 +25,11 @@ action_cmp_total =
     (then_total (on_total (λ a. a.files) (lists_total named_cmp_total)) (on_total (λ a. a.imports) (lists_total import_cmp_total))))
 
 named_cmp-IsAntisymmetric : IsAntisymmetric named_cmp
-named_cmp-IsAntisymmetric = exact_pairs bytes_cmp bytes_cmp exact_bytes exact_bytes
+named_cmp-IsAntisymmetric = exact_pairs text_cmp text_cmp exact_bytes exact_bytes
 
 import_cmp-IsAntisymmetric : IsAntisymmetric import_cmp
 import_cmp-IsAntisymmetric m n e =
-    let turned : ◌≡◌ {A = Named} (m.1, m.0) (n.1, n.0) = exact_pairs bytes_cmp bytes_cmp exact_bytes exact_bytes (m.1, m.0) (n.1, n.0) e in
+    let turned : ◌≡◌ {A = Named} (m.1, m.0) (n.1, n.0) = exact_pairs text_cmp text_cmp exact_bytes exact_bytes (m.1, m.0) (n.1, n.0) e in
     ap (λ (p : Named). (p.1, p.0)) turned
 
 pub action_cmp-IsAntisymmetric : IsAntisymmetric action_cmp
@@ -37,8 +37,8 @@ action_cmp-IsAntisymmetric a b e =
     let files = slice_cmp-IsAntisymmetric named_cmp-IsAntisymmetric in
     let imports = slice_cmp-IsAntisymmetric import_cmp-IsAntisymmetric in
     let parts : ◌≡◌ {A = ℕ × (List ℕ × (List Named × List Named))} (edition_number a.edition, (a.path, (a.files, a.imports))) (edition_number b.edition, (b.path, (b.files, b.imports))) =
-    exact_pairs nat_cmp (λ p q. ordering_then (bytes_cmp p.0 q.0) (contents_cmp p.1 q.1)) nat_cmp-IsAntisymmetric
-    (exact_pairs bytes_cmp contents_cmp exact_bytes (exact_pairs (slice_cmp named_cmp) (slice_cmp import_cmp) files imports))
+    exact_pairs nat_cmp (λ p q. ordering_then (text_cmp p.0 q.0) (contents_cmp p.1 q.1)) nat_cmp-IsAntisymmetric
+    (exact_pairs text_cmp contents_cmp exact_bytes (exact_pairs (slice_cmp named_cmp) (slice_cmp import_cmp) files imports))
     (edition_number a.edition, (a.path, (a.files, a.imports))) (edition_number b.edition, (b.path, (b.files, b.imports))) e in
     let edition = one_number a.edition b.edition (ap (λ (p : ℕ × (List ℕ × (List Named × List Named))). p.0) parts) in
     ap (λ (n : Edition). record { edition = n; path = a.path; files = a.files; imports = a.imports }) edition

@@ -38,8 +38,8 @@ action_code = code_by (Edition × (List ℕ × (List Named × List Named))) (cod
     (λ a. (a.edition, (a.path, (a.files, a.imports)))) (λ p. record { edition = p.0; path = p.1.0; files = p.1.1.0; imports = p.1.1.1 }) (λ _. refl)
 
 -- a file's name and text
-abbrev pub source_of : Parsed → Named
-source_of file = (file.name, file.text)
+abbrev pub source_with_name : Parsed → Named
+source_with_name file = (file.name, file.text)
 
 -- and back, in an edition
 abbrev pub parsed_of : Edition → Named → Parsed
@@ -50,23 +50,23 @@ abbrev pub named_source : Source → Named
 named_source source = (source.name, source.text)
 
 -- the path of an imported package and its summary's text
-abbrev pub import_of : Summary → Named
-import_of summary = (summary.path, summary_text summary)
+abbrev pub named_summary : Summary → Named
+named_summary summary = (summary.path, summary_text summary)
 
 -- the action of an edition, a directory, its parsed files and the summaries of its imports
 abbrev pub action_of : Edition → List ℕ → List Parsed → List Summary → Action
-action_of edition path files summaries = record { edition = edition; path = path; files = map source_of files; imports = map import_of summaries }
+action_of edition path files summaries = record { edition = edition; path = path; files = map source_with_name files; imports = map named_summary summaries }
 
 -- ---- refusals
 
 -- by bytes
-abbrev pub bytes_cmp : List ℕ → List ℕ → Ordering
-bytes_cmp = slice_cmp nat_cmp
+abbrev pub text_cmp : List ℕ → List ℕ → Ordering
+text_cmp = slice_cmp nat_cmp
 
 -- each name is below the next, and the first above `last`
 abbrev pub ascends_from : List ℕ → List Named → Bool
 ascends_from last [] = true
-ascends_from last (next ∷ rest) = is_lt (bytes_cmp last next.0) && ascends_from next.0 rest
+ascends_from last (next ∷ rest) = is_lt (text_cmp last next.0) && ascends_from next.0 rest
 
 -- each name is below the next
 abbrev pub ascends : List Named → Bool
@@ -74,8 +74,8 @@ ascends [] = true
 ascends (first ∷ rest) = ascends_from first.0 rest
 
 -- so are the names of files, and the paths of summaries
-abbrev pub are_ordered : List Parsed → List Summary → Bool
-are_ordered files summaries = ascends (map source_of files) && ascends (map import_of summaries)
+abbrev pub are_names_ordered : List Parsed → List Summary → Bool
+are_names_ordered files summaries = ascends (map source_with_name files) && ascends (map named_summary summaries)
 
 -- each has the package name of the first
 pub record HaveName (first : Parsed) (files : List Parsed) : Type 0 where
@@ -100,7 +100,7 @@ HaveOtherName [] = ⊥
 HaveOtherName (first ∷ files) = HaveOther first files
 
 -- the file that a text is in an edition imports a package at this path, other than the library
-pub record Imports (edition : Edition) (text path : List ℕ) : Type 0 where
+pub record TextImports (edition : Edition) (text path : List ℕ) : Type 0 where
   pub tree : File
   pub parse : IsParse edition text (Derived tree)
   pub spec : ImportSpec
@@ -110,14 +110,14 @@ pub record Imports (edition : Edition) (text path : List ℕ) : Type 0 where
 
 -- one of the files does
 abbrev pub IsImported : List Parsed → List ℕ → Type 0
-IsImported files path = (file : Parsed) × Contains files file × Imports file.edition file.text path
+IsImported files path = (file : Parsed) × Contains files file × TextImports file.edition file.text path
 
 -- one of the summaries has the path
 abbrev pub HasSummary : List Summary → List ℕ → Type 0
 HasSummary summaries path = (summary : Summary) × Contains summaries summary × (summary.path ≡ path)
 
 -- the summaries are exactly those of the packages that the files import
-pub record AreImports (files : List Parsed) (summaries : List Summary) : Type 0 where
+pub record AreSummariesOfImports (files : List Parsed) (summaries : List Summary) : Type 0 where
   pub all : (path : List ℕ) → IsImported files path → HasSummary summaries path
   pub only : (path : List ℕ) → HasSummary summaries path → IsImported files path
 
@@ -130,18 +130,18 @@ pub record HaveEdition (edition : Edition) (files : List Parsed) (summaries : Li
 -- are exactly those of their imports, and all of them are of that edition
 pub record MakeAction (edition : Edition) (files : List Parsed) (summaries : List Summary) : Type 0 where
   pub some : files ≢ []
-  pub ordered : are_ordered files summaries ≡ true
+  pub ordered : are_names_ordered files summaries ≡ true
   pub named : HaveOneName files
-  pub imported : AreImports files summaries
+  pub imported : AreSummariesOfImports files summaries
   pub alike : HaveEdition edition files summaries
 
 -- or the first of these holds
 abbrev pub AreRefused : Edition → List Parsed → List Summary → ActionError → Type 0
 AreRefused edition files summaries NoFile = files ≡ []
-AreRefused edition files summaries Unordered = (files ≢ []) × (are_ordered files summaries ≡ false)
-AreRefused edition files summaries MixedNames = (are_ordered files summaries ≡ true) × HaveOtherName files
-AreRefused edition files summaries NotImports = (are_ordered files summaries ≡ true) × HaveOneName files × (AreImports files summaries → ⊥)
-AreRefused edition files summaries OtherEdition = (are_ordered files summaries ≡ true) × HaveOneName files × AreImports files summaries × (HaveEdition edition files summaries → ⊥)
+AreRefused edition files summaries Unordered = (files ≢ []) × (are_names_ordered files summaries ≡ false)
+AreRefused edition files summaries MixedNames = (are_names_ordered files summaries ≡ true) × HaveOtherName files
+AreRefused edition files summaries NotImports = (are_names_ordered files summaries ≡ true) × HaveOneName files × (AreSummariesOfImports files summaries → ⊥)
+AreRefused edition files summaries OtherEdition = (are_names_ordered files summaries ≡ true) × HaveOneName files × AreSummariesOfImports files summaries × (HaveEdition edition files summaries → ⊥)
 
 -- ---- texts
 
@@ -175,11 +175,11 @@ pub record IsSized (a : Action) : Type 0 where
 
 -- by name, then text
 abbrev pub named_cmp : Named → Named → Ordering
-named_cmp m n = ordering_then (bytes_cmp m.0 n.0) (bytes_cmp m.1 n.1)
+named_cmp m n = ordering_then (text_cmp m.0 n.0) (text_cmp m.1 n.1)
 
 -- imports by the text of the summary, which has the path in it, then by path
 abbrev pub import_cmp : Named → Named → Ordering
-import_cmp m n = ordering_then (bytes_cmp m.1 n.1) (bytes_cmp m.0 n.0)
+import_cmp m n = ordering_then (text_cmp m.1 n.1) (text_cmp m.0 n.0)
 
 -- by the files, each by name and text, then by the imports
 abbrev pub contents_cmp : List Named × List Named → List Named × List Named → Ordering
@@ -187,4 +187,4 @@ contents_cmp a b = ordering_then (slice_cmp named_cmp a.0 b.0) (slice_cmp import
 
 -- by contents: the edition's number, then the path, then the files and the imports
 abbrev pub action_cmp : Action → Action → Ordering
-action_cmp a b = ordering_then (nat_cmp (edition_number a.edition) (edition_number b.edition)) (ordering_then (bytes_cmp a.path b.path) (contents_cmp (a.files, a.imports) (b.files, b.imports)))
+action_cmp a b = ordering_then (nat_cmp (edition_number a.edition) (edition_number b.edition)) (ordering_then (text_cmp a.path b.path) (contents_cmp (a.files, a.imports) (b.files, b.imports)))

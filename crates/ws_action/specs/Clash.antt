@@ -9,12 +9,12 @@ abbrev pub NoClash : List (List ℕ) → Type 0
 NoClash T = (s t : List ℕ) → Contains T s → Contains T t → sha256 s ≡ sha256 t → s ≡ t
 
 -- the texts of files or imports
-abbrev pub texts_of : List Named → List (List ℕ)
-texts_of ns = map (λ n. n.1) ns
+abbrev pub named_texts : List Named → List (List ℕ)
+named_texts ns = map (λ n. n.1) ns
 
 -- what is hashed for an action: its text, and the texts of its files and of its imports' summaries
 abbrev pub hashed : Action → List (List ℕ)
-hashed a = action_text a ∷ texts_of a.files ++ texts_of a.imports
+hashed a = action_text a ∷ named_texts a.files ++ named_texts a.imports
 
 -- what is hashed for the actions
 abbrev pub hashed_actions : List Action → List (List ℕ)

@@ -4,7 +4,7 @@ ghost use Rattle.std.specs.Arc.{arc_value};
 ghost use Rattle.std.specs.Bool.{OnTrue, OnFalse};
 ghost use Rattle.std.specs.List.{slice_get};
 ghost use Rattle.sha2.specs.Sha256.{sha256};
-ghost use Rattle.ws_action.specs.Actions.{source_of, import_of, ascends, list_text, AreImports};
+ghost use Rattle.ws_action.specs.Actions.{source_with_name, named_summary, ascends, list_text, AreSummariesOfImports};
 
 use crate::import::{are_paths, import_paths};
 use go_ast::parsed::Parsed;
@@ -29,7 +29,7 @@ pub struct Files {
 impl Model for Files {
     ghost use Rattle.std.specs.Prelude.{◌≡◌, List, map};
     ghost use Rattle.go_ast.specs.Parse as parses;
-    ghost use Rattle.ws_action.specs.Actions.{source_of, list_text};
+    ghost use Rattle.ws_action.specs.Actions.{source_with_name, list_text};
     ghost use Rattle.ws_action.specs.Imported.{AreImportPaths};
     ghost use Rattle.sha2.specs.Sha256.{sha256};
 
@@ -37,7 +37,7 @@ impl Model for Files {
 
     ghost view = { λ a. a.parsed.items };
 
-    ghost invariant = { λ a. (a.text.items ≡ list_text (map source_of a.parsed.items)) × AreImportPaths a.parsed.items (map (λ p. p.items) a.paths.items) × (a.digests.items ≡ map (λ p. sha256 p.text) a.parsed.items) };
+    ghost invariant = { λ a. (a.text.items ≡ list_text (map source_with_name a.parsed.items)) × AreImportPaths a.parsed.items (map (λ p. p.items) a.paths.items) × (a.digests.items ≡ map (λ p. sha256 p.text) a.parsed.items) };
 }
 
 impl Files {
@@ -100,15 +100,15 @@ impl Files {
     /// Whether summaries, in ascending order of their paths, are exactly those of the packages that
     /// the files import, `fmt` aside.
     pub(crate) fn are_imports(&self, summaries: &[Arc<Summary>]) -> bool
-        ensures are { OnTrue result (AreImports self.now (map arc_value summaries.now)) }
-        ensures other { OnFalse result (ascends (map import_of (map arc_value summaries.now)) ≡ true → AreImports self.now (map arc_value summaries.now) → ⊥) }
+        ensures are { OnTrue result (AreSummariesOfImports self.now (map arc_value summaries.now)) }
+        ensures other { OnFalse result (ascends (map named_summary (map arc_value summaries.now)) ≡ true → AreSummariesOfImports self.now (map arc_value summaries.now) → ⊥) }
     {
         are_paths(&self.paths, summaries)
     }
 
     /// Appends what stands for the files in the text of an action.
     pub(crate) fn push(&self, text: &mut Vec<u8>) -> Result<(), AllocError>
-        ensures { OnOk result (text.new.items ≡ text.old.items ++ list_text (map source_of self.now)) }
+        ensures { OnOk result (text.new.items ≡ text.old.items ++ list_text (map source_with_name self.now)) }
     {
         text.extend_from_slice(&self.text)?;
         Ok(())
@@ -152,7 +152,7 @@ fn hash_all(
     parsed: &[Parsed],
     before: Option<&Files>,
 ) -> Result<Vec<[u8; 32]>, AllocError>
-    ensures text { OnOk result (text.new.items ≡ text.old.items ++ list_text (map source_of parsed.now)) }
+    ensures text { OnOk result (text.new.items ≡ text.old.items ++ list_text (map source_with_name parsed.now)) }
     ensures digests { IfOk result (λ digests. digests.items ≡ map (λ p. sha256 p.text) parsed.now) }
 {
     push_number(text, parsed.len() as u64)?;

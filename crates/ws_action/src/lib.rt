@@ -9,7 +9,7 @@ ghost use Rattle.go_ast.specs.Parse.{IsNamed, IsOther};
 ghost use Rattle.sha2.specs.Sha256.{sha256};
 ghost use Rattle.go_export.specs.Writable.{IsWritten};
 ghost use Rattle.ws_action.specs.Clash.{NoClash, Includes, hashed_actions, AllSized};
-ghost use Rattle.ws_action.specs.Actions.{Action as AnAction, source_of, import_of, action_of, are_ordered, HaveOneName, HaveOtherName, MakeAction, AreRefused, action_text, action_id, IsSized, action_cmp};
+ghost use Rattle.ws_action.specs.Actions.{Action as AnAction, source_with_name, named_summary, action_of, are_names_ordered, HaveOneName, HaveOtherName, MakeAction, AreRefused, action_text, action_id, IsSized, action_cmp};
 
 mod files;
 mod import;
@@ -131,7 +131,7 @@ impl Action {
 
     /// The package's files.
     pub fn files(&self) -> &[Parsed]
-        ensures value { map source_of result.now ≡ self.now.files }
+        ensures value { map source_with_name result.now ≡ self.now.files }
         ensures named { HaveOneName result.now }
         ensures edition { All (λ file. file.edition ≡ self.now.edition) result.now }
     {
@@ -140,7 +140,7 @@ impl Action {
 
     /// The summaries of the packages that the files import.
     pub fn imports(&self) -> &[Arc<Summary>]
-        ensures value { map import_of (map arc_value result.now) ≡ self.now.imports }
+        ensures value { map named_summary (map arc_value result.now) ≡ self.now.imports }
         ensures written { All IsWritten (map arc_value result.now) }
         ensures edition { All (λ summary. summary.edition ≡ self.now.edition) (map arc_value result.now) }
     {
@@ -294,7 +294,7 @@ fn check_parts(edition: Edition, files: &Files, imports: &[Arc<Summary>]) -> Res
 
 /// Whether the names of the files and the paths of the summaries are strictly ascending.
 fn are_ordered(files: &[Parsed], imports: &[Arc<Summary>]) -> bool
-    ensures { result ≡ are_ordered files.now (map arc_value imports.now) }
+    ensures { result ≡ are_names_ordered files.now (map arc_value imports.now) }
 {
     ascend(files) && ascend(imports)
 }

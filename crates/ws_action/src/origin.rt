@@ -1,7 +1,7 @@
 //! What a package was compiled from, when its trees are given up.
 ghost use Rattle.std.specs.Prelude.{◌≡◌, IfOk, map};
 ghost use Rattle.std.specs.Arc.{arc_value};
-ghost use Rattle.ws_action.specs.Actions.{named_source, source_of, import_of, action_cmp};
+ghost use Rattle.ws_action.specs.Actions.{named_source, source_with_name, named_summary, action_cmp};
 
 use crate::part::cmp_lists;
 use crate::{Action, copy_imports};
@@ -33,7 +33,7 @@ impl Model for Origin {
 
     ghost coded = { actions.action_code };
 
-    ghost view = { λ a. record { edition = a.edition; path = string_bytes a.path; files = map (λ s. actions.named_source (arc_value s)) a.files.items; imports = map actions.import_of (map arc_value a.imports.items) } };
+    ghost view = { λ a. record { edition = a.edition; path = string_bytes a.path; files = map (λ s. actions.named_source (arc_value s)) a.files.items; imports = map actions.named_summary (map arc_value a.imports.items) } };
 }
 
 impl Origin {
@@ -76,7 +76,7 @@ impl Origin {
 
     /// The summaries of the packages that the files import.
     pub fn imports(&self) -> &[Arc<Summary>]
-        ensures { map import_of (map arc_value result.now) ≡ self.now.imports }
+        ensures { map named_summary (map arc_value result.now) ≡ self.now.imports }
     {
         self.imports.as_slice()
     }
@@ -99,7 +99,7 @@ impl Origin {
 }
 
 fn source_of(file: &Parsed) -> Result<Arc<Source>, AllocError>
-    ensures { IfOk result (λ source. named_source (arc_value source) ≡ source_of file.now) }
+    ensures { IfOk result (λ source. named_source (arc_value source) ≡ source_with_name file.now) }
 {
     let source = Arc::try_clone(file.source())?;
     Ok(source)
@@ -107,7 +107,7 @@ fn source_of(file: &Parsed) -> Result<Arc<Source>, AllocError>
 
 /// The names and texts of files, which are shared.
 fn sources(alloc: Global, files: &[Parsed]) -> Result<Vec<Arc<Source>>, AllocError>
-    ensures { IfOk result (λ sources. map (λ s. named_source (arc_value s)) sources.items ≡ map source_of files.now) }
+    ensures { IfOk result (λ sources. map (λ s. named_source (arc_value s)) sources.items ≡ map source_with_name files.now) }
 {
     let mut sources = Vec::with_capacity(alloc, files.len())?;
     for file in files {

@@ -5,7 +5,7 @@ ghost use Rattle.std.specs.Ordering.{ordering_then};
 ghost use Rattle.std.specs.Cmp.Lexicographic.{slice_cmp};
 ghost use Rattle.sha2.specs.Sha256.{sha256};
 ghost use Rattle.std.specs.declared.cmp.Ordering.{Ordering as AnOrdering};
-ghost use Rattle.ws_action.specs.Actions.{Named, import_of, ascends, list_text, AreSized, named_cmp, import_cmp};
+ghost use Rattle.ws_action.specs.Actions.{Named, named_summary, ascends, list_text, AreSized, named_cmp, import_cmp};
 
 use go_ast::parsed::Parsed;
 use go_export::field::{digest, push_field, push_number};
@@ -40,9 +40,9 @@ pub(crate) trait Part {
 }
 
 impl Part for Parsed {
-    ghost use Rattle.ws_action.specs.Actions.{source_of, named_cmp};
+    ghost use Rattle.ws_action.specs.Actions.{source_with_name, named_cmp};
 
-    ghost named = { source_of };
+    ghost named = { source_with_name };
 
     ghost order = { named_cmp };
 
@@ -96,9 +96,9 @@ impl Part for Arc<Source> {
 
 impl Part for Arc<Summary> {
     ghost use Rattle.std.specs.Arc.{arc_value};
-    ghost use Rattle.ws_action.specs.Actions.{import_of, import_cmp};
+    ghost use Rattle.ws_action.specs.Actions.{named_summary, import_cmp};
 
-    ghost named = { λ s. import_of (arc_value s) };
+    ghost named = { λ s. named_summary (arc_value s) };
 
     ghost order = { import_cmp };
 
@@ -188,7 +188,7 @@ pub(crate) fn cmp_lists<P: Part>(
     imports: &[Arc<Summary>],
     other_imports: &[Arc<Summary>],
 ) -> Ordering
-    ensures { result ≡ ordering_then (slice_cmp P.order (map P.named files.now) (map P.named other_files.now)) (slice_cmp import_cmp (map import_of (map arc_value imports.now)) (map import_of (map arc_value other_imports.now))) }
+    ensures { result ≡ ordering_then (slice_cmp P.order (map P.named files.now) (map P.named other_files.now)) (slice_cmp import_cmp (map named_summary (map arc_value imports.now)) (map named_summary (map arc_value other_imports.now))) }
 {
     match cmp_parts(files, other_files) {
         Ordering::Equal => cmp_parts(imports, other_imports),

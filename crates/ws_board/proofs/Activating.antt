@@ -3,15 +3,15 @@ use Rattle.std.proofs.Common.{◌≡◌, ℕ, ◌+◌, ◌-◌, ◌<◌, ◌≤�
 use Rattle.std.specs.List.{list_any, slice_index_or}
 use Rattle.std.proofs.Math.ListN.{set, length-set}
 use Rattle.std.proofs.lemmas.Bool.{cases_eq}
-use Rattle.ws_board.specs.declared.work.Status.{Status}
-use Rattle.ws_board.specs.declared.work.Status.TheVariants.{Waiting, Ready, Running, Blocked, Done}
+use Rattle.ws_board.specs.declared.work.JobStatus.{JobStatus}
+use Rattle.ws_board.specs.declared.work.JobStatus.TheVariants.{Waiting, Ready, Running, Blocked, Done}
 use Rattle.ws_board.specs.declared.work.Event.{Event}
 use Rattle.ws_board.specs.declared.table.Row.{Row}
 use Rattle.ws_board.specs.declared.index.Id.{Id}
 use Rattle.ws_board.specs.Work.{Job}
 use Rattle.ws_board.specs.Machine.{is_open, is_waiting, is_active, is_back_of}
-use Rattle.ws_board.specs.Ends.{imports_at}
-use Rattle.ws_board.specs.Rows.{due, due_of, owed, telling, watched, times, AreCarriedBy, IsHeldUp, Waits, KnowsBacks, IsPaid}
+use Rattle.ws_board.specs.Ends.{job_imports_at}
+use Rattle.ws_board.specs.Rows.{due, due_of, owed, importer_reads, watched, times, ArePropagatedBy, IsHeldUp, Waits, KnowsBacks, IsPaid}
 use Rattle.ws_board.specs.Table.{row_at}
 use Rattle.ws_board.specs.Indexes.{jobs_of}
 use Rattle.ws_board.proofs.Standing.{row_same, row_other, owed_set}
@@ -21,7 +21,7 @@ pub kept_of : (o : Option Id) (k : ℕ) → 0 < times k (jobs_of o) → o ≡ No
 kept_of None k some e = omega (arith, some)
 kept_of (Some id) k some e = cc
 
-module _ (J : List Job) (I : List (List ℕ)) (R N : List Row) (k : ℕ) (row : Row) (good : AreCarriedBy J I R) (written : N ≡ set R k row) (inside : k < length R)
+module _ (J : List Job) (I : List (List ℕ)) (R N : List Row) (k : ℕ) (row : Row) (good : ArePropagatedBy J I R) (written : N ≡ set R k row) (inside : k < length R)
     (was : is_active (row_at R k).status ≡ true) (is : is_active row.status ≡ true) (left : row.left ≡ (row_at R k).left) (imports : row.imports ≡ (row_at R k).imports) (importers : row.importers ≡ (row_at R k).importers) where
   here : row_at N k ≡ row
   here = ap (λ rs. row_at rs k) written ∙ row_same R k row inside
@@ -38,14 +38,14 @@ module _ (J : List Job) (I : List (List ℕ)) (R N : List Row) (k : ℕ) (row : 
     | inr ne ↦ ap f (other j ne)
   ]
 
-  waits_not : (s : Status) → is_active s ≡ true → is_waiting s ≡ false
+  waits_not : (s : JobStatus) → is_active s ≡ true → is_waiting s ≡ false
   waits_not Waiting a = absurd (cc)
   waits_not Ready a = refl
   waits_not (Running hand) a = refl
   waits_not Blocked a = absurd (cc)
   waits_not (Done good) a = absurd (cc)
 
-  open_is : (s : Status) → is_active s ≡ true → is_open s ≡ true
+  open_is : (s : JobStatus) → is_active s ≡ true → is_open s ≡ true
   open_is Waiting a = absurd (cc)
   open_is Ready a = refl
   open_is (Running hand) a = refl
@@ -65,7 +65,7 @@ module _ (J : List Job) (I : List (List ℕ)) (R N : List Row) (k : ℕ) (row : 
   apart : (j : ℕ) → is_waiting (row_at N j).status ≡ true → row_at N j ≡ row_at R j
   apart j w = other j (λ e. let c : false ≡ true = sym (waits_not row.status is) ∙ ap (λ (r : Row). is_waiting r.status) (sym here) ∙ ap (λ i. is_waiting (row_at N i).status) (sym e) ∙ w in cc)
 
-  pub act_good : AreCarriedBy J I N
+  pub act_good : ArePropagatedBy J I N
   act_good = record {
     known = record {
       jobs = act_count ∙ good.known.jobs;
@@ -76,18 +76,18 @@ module _ (J : List Job) (I : List (List ℕ)) (R N : List Row) (k : ℕ) (row : 
       named = good.known.named;
       inside = good.known.inside;
     };
-    past = λ j w i le lt. opens (slice_index_or (imports_at J j) i 0) ∙ good.past j (sym (waits j) ∙ w) i (subst (λ n. n ≤ i) (lefts j) le) lt;
-    within = λ j w. subst (λ n. n ≤ length (imports_at J j)) (sym (lefts j)) (good.within j (sym (waits j) ∙ w));
+    past = λ j w i le lt. opens (slice_index_or (job_imports_at J j) i 0) ∙ good.past j (sym (waits j) ∙ w) i (subst (λ n. n ≤ i) (lefts j) le) lt;
+    within = λ j w. subst (λ n. n ≤ length (job_imports_at J j)) (sym (lefts j)) (good.within j (sym (waits j) ∙ w));
     bare = λ j w. ap (λ (r : Row). r.action) (apart j (ap is_waiting w)) ∙ good.bare j (ap (λ (r : Row). r.status) (sym (apart j (ap is_waiting w))) ∙ w);
   }
 
   pub act_waits : Waits J R [] (λ j. false) → Waits J N [] (λ j. false)
   act_waits w j waiting not =
       let held : IsHeldUp J R [] j = w j (sym (waits j) ∙ waiting) refl in
-      let v : watched J N j ≡ watched J R j = ap (λ n. slice_index_or (imports_at J j) (n - 1) 0) (lefts j) in
+      let v : watched J N j ≡ watched J R j = ap (λ n. slice_index_or (job_imports_at J j) (n - 1) 0) (lefts j) in
       record {
         some = subst (λ n. 0 < n) (sym (lefts j)) held.some;
-        within = subst (λ n. n ≤ length (imports_at J j)) (sym (lefts j)) held.within;
+        within = subst (λ n. n ≤ length (job_imports_at J j)) (sym (lefts j)) held.within;
         inside = omega (arith, v, act_count, held.inside);
         work = held.work;
         on = ap (λ i. is_open (row_at N i).status || list_any (λ i. eqb i i) []) v ∙ ap (λ b. b || false) (opens (watched J R j)) ∙ held.on;
@@ -103,16 +103,16 @@ module _ (J : List Job) (I : List (List ℕ)) (R N : List Row) (k : ℕ) (row : 
     | inr ne ↦ ap (λ (r : Row). r.was_back) (other j ne) ∙ knows j (omega (arith, lt, act_count)) ∙ sym (backs_other j history all e is (not j ne))
   ]
 
-  due_ready : (r : Row) → r.status ≡ Ready → due r ≡ 2 + telling r.importers
+  due_ready : (r : Row) → r.status ≡ Ready → due r ≡ 2 + importer_reads r.importers
   due_ready r e = ap (λ s. due_of s r.left r.imports r.importers) e
 
-  due_running : (r : Row) (hand : ℕ) → r.status ≡ Running hand → due r ≡ 1 + telling r.importers
+  due_running : (r : Row) (hand : ℕ) → r.status ≡ Running hand → due r ≡ 1 + importer_reads r.importers
   due_running r hand e = ap (λ s. due_of s r.left r.imports r.importers) e
 
   pub taken_paid : (looks next imports_count backs same : ℕ) (hand : ℕ) → (row_at R k).status ≡ Ready → row.status ≡ Running hand → next ≡ looks + 1 → same ≡ backs → IsPaid looks R imports_count backs → IsPaid next N imports_count same
   taken_paid looks next imports_count backs same hand ready runs one still paid =
       let o : owed N ≡ owed (set R k row) = ap owed written in
-      let t : telling row.importers ≡ telling (row_at R k).importers = ap telling importers in (
+      let t : importer_reads row.importers ≡ importer_reads (row_at R k).importers = ap importer_reads importers in (
         omega (arith, act_count, paid.0, one),
         omega (arith, act_count, paid.1, one, still, o, owed_set R k row inside, due_ready (row_at R k) ready, due_running row hand runs, t),
       )
@@ -120,7 +120,7 @@ module _ (J : List Job) (I : List (List ℕ)) (R N : List Row) (k : ℕ) (row : 
   pub back_paid : (looks imports_count backs more : ℕ) (hand : ℕ) → (row_at R k).status ≡ Running hand → row.status ≡ Ready → more ≡ backs + 1 → IsPaid looks R imports_count backs → IsPaid looks N imports_count more
   back_paid looks imports_count backs more hand runs ready one paid =
       let o : owed N ≡ owed (set R k row) = ap owed written in
-      let t : telling row.importers ≡ telling (row_at R k).importers = ap telling importers in (
+      let t : importer_reads row.importers ≡ importer_reads (row_at R k).importers = ap importer_reads importers in (
         omega (arith, act_count, paid.0),
         omega (arith, act_count, paid.1, one, o, owed_set R k row inside, due_running (row_at R k) hand runs, due_ready row ready, t),
       )

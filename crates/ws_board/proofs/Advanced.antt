@@ -6,12 +6,12 @@ use Rattle.ws_board.specs.declared.table.Row.{Row}
 use Rattle.ws_board.specs.declared.rows.Rows.{Rows}
 use Rattle.ws_board.specs.declared.rows.moves.Moves.{Moves}
 use Rattle.ws_board.specs.Work.{Job}
-use Rattle.ws_board.specs.Machine.{Held, is_open}
-use Rattle.ws_board.specs.Rows.{ready_of, due, telling, untold, owed, AreCarried, AreCarriedBy, Becomes, CarriesOn, Waits}
+use Rattle.ws_board.specs.Machine.{Holdings, is_open}
+use Rattle.ws_board.specs.Rows.{ready_of, due, importer_reads, untold, owed, ArePropagated, ArePropagatedBy, RowBecomes, Propagates, Waits}
 use Rattle.ws_board.specs.Table.{row_at}
 use Rattle.ws_board.proofs.Advancing.{set_backs, set_good, set_under, set_runs_same, set_listed, set_fewer, set_paid, set_waits}
 
-module _ (h : Held) (old new : Rows) (job : ℕ) (row : Row) (before after : Moves) (good : AreCarried old) (becomes : Becomes h old.jobs.items old.rows job row) (written : new.rows ≡ set old.rows job row)
+module _ (h : Holdings) (old new : Rows) (job : ℕ) (row : Row) (before after : Moves) (good : ArePropagated old) (becomes : RowBecomes h old.jobs.items old.rows job row) (written : new.rows ≡ set old.rows job row)
     (jobs : new.jobs.items ≡ old.jobs.items) (importers : new.importers.items ≡ old.importers.items)
     (settled : after.settled.items ≡ (if is_open row.status then before.settled.items else (before.settled.items ++ job ∷ []))) (ready : after.ready.items ≡ before.ready.items ++ ready_of job row.status row.action) where
   abbrev J : List Job
@@ -26,10 +26,10 @@ module _ (h : Held) (old new : Rows) (job : ℕ) (row : Row) (before after : Mov
   abbrev N : List Row
   N = new.rows
 
-  next_good : AreCarried new
-  next_good = subst (λ j. AreCarriedBy j new.importers.items N) (sym jobs) (subst (λ i. AreCarriedBy J i N) (sym importers) (set_good h J I O N job row good becomes written))
+  next_good : ArePropagated new
+  next_good = subst (λ j. ArePropagatedBy j new.importers.items N) (sym jobs) (subst (λ i. ArePropagatedBy J i N) (sym importers) (set_good h J I O N job row good becomes written))
 
-  pub advanced : (looks next : ℕ) → next + due row + (if is_open row.status then 0 else telling row.importers) ≤ looks + due (row_at O job) + 3 → looks ≤ next → CarriesOn h 3 old new before after looks next
+  pub advanced : (looks next : ℕ) → next + due row + (if is_open row.status then 0 else importer_reads row.importers) ≤ looks + due (row_at O job) + 3 → looks ≤ next → Propagates h 3 old new before after looks next
   advanced looks next paid more = record {
     jobs = jobs;
     importers = importers;

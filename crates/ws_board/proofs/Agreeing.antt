@@ -7,14 +7,14 @@ use Rattle.std.proofs.lemmas.Slice.Eq.{bytes_eq-Decides}
 use Rattle.std.proofs.lemmas.List.Sums.{sum_by-cons}
 use Rattle.std.proofs.lemmas.List.Elements.{Contains-get_or}
 use Rattle.ws_action.specs.Actions.{Action, action_id}
-use Rattle.ws_board.specs.declared.work.Status.{Status}
-use Rattle.ws_board.specs.declared.work.Status.TheVariants.{Waiting, Ready, Running, Blocked, Done}
+use Rattle.ws_board.specs.declared.work.JobStatus.{JobStatus}
+use Rattle.ws_board.specs.declared.work.JobStatus.TheVariants.{Waiting, Ready, Running, Blocked, Done}
 use Rattle.ws_board.specs.declared.table.Row.{Row}
 use Rattle.ws_board.specs.declared.index.Run.{Run}
 use Rattle.ws_board.specs.declared.index.Ready.{Ready as AReady}
 use Rattle.ws_board.specs.Machine.{is_waiting, is_ready, is_active, is_running, has_action_id}
-use Rattle.ws_board.specs.Rows.{times, those_of, is_active_of, is_new}
-use Rattle.ws_board.specs.Table.{row_at, standings_of}
+use Rattle.ws_board.specs.Rows.{times, those_of, is_active_of, is_newly_ready}
+use Rattle.ws_board.specs.Table.{row_at, job_states_of}
 use Rattle.ws_board.specs.Indexes.{is_unrun, IsRunAt, AgreesBy}
 use Rattle.ws_board.proofs.Carry.{waiting_or, waiting_is}
 use Rattle.ws_board.proofs.Listing.{contains_any, times_some, times_any}
@@ -41,21 +41,21 @@ one_of : (b : Bool) → 0 < (if b then 1 else 0) → b ≡ true
 one_of true h = refl
 one_of false h = absurd (omega (arith, h))
 
-pub ready_is : (s : Status) → is_ready s ≡ true → s ≡ Ready
+pub ready_is : (s : JobStatus) → is_ready s ≡ true → s ≡ Ready
 ready_is Waiting h = absurd (cc)
 ready_is Ready h = refl
 ready_is (Running hand) h = absurd (cc)
 ready_is Blocked h = absurd (cc)
 ready_is (Done good) h = absurd (cc)
 
-pub running_is : (s : Status) → is_running s ≡ true → (hand : ℕ) × (s ≡ Running hand)
+pub running_is : (s : JobStatus) → is_running s ≡ true → (hand : ℕ) × (s ≡ Running hand)
 running_is Waiting h = absurd (cc)
 running_is Ready h = absurd (cc)
 running_is (Running hand) h = (hand, refl)
 running_is Blocked h = absurd (cc)
 running_is (Done good) h = absurd (cc)
 
-active_cases : (s : Status) → is_active s ≡ true → (is_ready s ≡ true) ⊎ (is_running s ≡ true)
+active_cases : (s : JobStatus) → is_active s ≡ true → (is_ready s ≡ true) ⊎ (is_running s ≡ true)
 active_cases Waiting h = absurd (cc)
 active_cases Ready h = inl refl
 active_cases (Running hand) h = inr refl
@@ -142,8 +142,8 @@ pub released_agrees : (O N : List Row) (jobs more : List ℕ → List ℕ) (run 
     → length N ≡ length O
     → ((k : ℕ) → is_waiting (row_at O k).status ≡ false → ((row_at N k).status ≡ (row_at O k).status) × ((row_at N k).action ≡ (row_at O k).action))
     → ((k : ℕ) → is_waiting (row_at O k).status ≡ true → is_running (row_at N k).status ≡ false)
-    → ((k : ℕ) (id : List ℕ) → times k (those_of id ready) ≡ (if is_new O N id k then 1 else 0))
-    → count_by is_running (standings_of N).statuses ≡ count_by is_running (standings_of O).statuses
+    → ((k : ℕ) (id : List ℕ) → times k (those_of id ready) ≡ (if is_newly_ready O N id k then 1 else 0))
+    → count_by is_running (job_states_of N).statuses ≡ count_by is_running (job_states_of O).statuses
     → ((id : List ℕ) (k : ℕ) → times k (more id) ≡ times k (jobs id) + times k (those_of id ready))
     → ((id : List ℕ) → ran id ≡ run id)
     → ((k : ℕ) → freed k ≡ (if list_any (λ one. (eqb one.job k) && is_none (ran one.id)) ready then true else free k))
@@ -159,16 +159,16 @@ released_agrees O N jobs more run ran free freed count running ready agrees same
   running = agrees.running ∙ sym runs;
 }
   where
-    new_false : (id : List ℕ) (k : ℕ) → is_waiting (row_at O k).status ≡ false → is_new O N id k ≡ false
+    new_false : (id : List ℕ) (k : ℕ) → is_waiting (row_at O k).status ≡ false → is_newly_ready O N id k ≡ false
     new_false id k w = ap (λ b. b && (is_ready (row_at N k).status && has_action_id id (row_at N k).action)) w
 
-    waits_not_active : (s : Status) → is_waiting s ≡ true → is_active s ≡ false
+    waits_not_active : (s : JobStatus) → is_waiting s ≡ true → is_active s ≡ false
     waits_not_active s w = ap is_active (waiting_is s w)
 
-    waits_not_ready : (s : Status) → is_waiting s ≡ true → is_ready s ≡ false
+    waits_not_ready : (s : JobStatus) → is_waiting s ≡ true → is_ready s ≡ false
     waits_not_ready s w = ap is_ready (waiting_is s w)
 
-    ready_or_not : (s : Status) (b : Bool) → is_running s ≡ false → (is_active s && b) ≡ (is_ready s && b)
+    ready_or_not : (s : JobStatus) (b : Bool) → is_running s ≡ false → (is_active s && b) ≡ (is_ready s && b)
     ready_or_not Waiting b r = refl
     ready_or_not Ready b r = refl
     ready_or_not (Running hand) b r = absurd (cc)
@@ -178,12 +178,12 @@ released_agrees O N jobs more run ran free freed count running ready agrees same
     counts : (id : List ℕ) (k : ℕ) → (is_waiting (row_at O k).status ≡ true) ⊎ (is_waiting (row_at O k).status ≡ false) → times k (jobs id) + times k (those_of id ready) ≡ (if is_active_of N id k then 1 else 0)
     counts id k (inl w) =
         let a : ◌≡◌ {A = ℕ} (if is_active_of O id k then 1 else 0) 0 = ap (λ b. if b && has_action_id id (row_at O k).action then 1 else 0) (waits_not_active (row_at O k).status w) in
-        let b : ◌≡◌ {A = ℕ} (if is_new O N id k then 1 else 0) (if is_ready (row_at N k).status && has_action_id id (row_at N k).action then 1 else 0) = ap (λ b. if b && (is_ready (row_at N k).status && has_action_id id (row_at N k).action) then 1 else 0) w in
+        let b : ◌≡◌ {A = ℕ} (if is_newly_ready O N id k then 1 else 0) (if is_ready (row_at N k).status && has_action_id id (row_at N k).action then 1 else 0) = ap (λ b. if b && (is_ready (row_at N k).status && has_action_id id (row_at N k).action) then 1 else 0) w in
         let c : ◌≡◌ {A = ℕ} (if is_active_of N id k then 1 else 0) (if is_ready (row_at N k).status && has_action_id id (row_at N k).action then 1 else 0) = ap (λ b. if b then 1 else 0) (ready_or_not (row_at N k).status (has_action_id id (row_at N k).action) (rests k w)) in
         omega (arith, agrees.jobs id k, listed k id, a, b, c)
     counts id k (inr w) =
         let p = others k w in
-        let a : ◌≡◌ {A = ℕ} (if is_new O N id k then 1 else 0) 0 = ap (λ b. if b then 1 else 0) (new_false id k w) in
+        let a : ◌≡◌ {A = ℕ} (if is_newly_ready O N id k then 1 else 0) 0 = ap (λ b. if b then 1 else 0) (new_false id k w) in
         let b : ◌≡◌ {A = ℕ} (if is_active_of N id k then 1 else 0) (if is_active_of O id k then 1 else 0) = ap (λ s. if is_active s && has_action_id id (row_at N k).action then 1 else 0) p.0 ∙ ap (λ (x : Option Action). if is_active (row_at O k).status && has_action_id id x then 1 else 0) p.1 in
         omega (arith, agrees.jobs id k, listed k id, a, b)
 
@@ -204,8 +204,8 @@ released_agrees O N jobs more run ran free freed count running ready agrees same
     released : ℕ → Bool
     released k = list_any (λ one. (eqb one.job k) && is_none (ran one.id)) ready
 
-    new_of : (k : ℕ) → released k ≡ true → (id : List ℕ) × (is_new O N id k ≡ true) × (is_none (ran id) ≡ true)
-    new_of k h = let r = released_has ran ready k h in (r.0, one_of (is_new O N r.0 k) (subst (λ n. 0 < n) (listed k r.0) r.1), r.2)
+    new_of : (k : ℕ) → released k ≡ true → (id : List ℕ) × (is_newly_ready O N id k ≡ true) × (is_none (ran id) ≡ true)
+    new_of k h = let r = released_has ran ready k h in (r.0, one_of (is_newly_ready O N r.0 k) (subst (λ n. 0 < n) (listed k r.0) r.1), r.2)
 
     if_false : (b c : Bool) → b ≡ false → (if b then true else c) ≡ c
     if_false b c e = ap (λ x. if x then true else c) e
@@ -237,11 +237,11 @@ released_agrees O N jobs more run ran free freed count running ready agrees same
             let p = both_of (is_ready (row_at N k).status) (is_unrun ran (row_at N k).action) h in
             let a = unrun_has ran (row_at N k).action p.1 in
             let id = action_id a.0 in
-            let new : is_new O N id k ≡ true = both_and (is_waiting (row_at O k).status) (is_ready (row_at N k).status && has_action_id id (row_at N k).action) w (both_and (is_ready (row_at N k).status) (has_action_id id (row_at N k).action) p.0 (has_its id (row_at N k).action a.0 a.1 refl)) in
-            let one : ◌≡◌ {A = ℕ} (if is_new O N id k then 1 else 0) 1 = ap (λ b. if b then 1 else 0) new in
+            let new : is_newly_ready O N id k ≡ true = both_and (is_waiting (row_at O k).status) (is_ready (row_at N k).status && has_action_id id (row_at N k).action) w (both_and (is_ready (row_at N k).status) (has_action_id id (row_at N k).action) p.0 (has_its id (row_at N k).action a.0 a.1 refl)) in
+            let one : ◌≡◌ {A = ℕ} (if is_newly_ready O N id k then 1 else 0) 1 = ap (λ b. if b then 1 else 0) new in
             has_released ran ready k id (omega (arith, listed k id, one)) a.2
 
--- ---- one id that a hand runs
+-- ---- one id that a worker runs
 
 module _ (R : List Row) (jobs : List ℕ → List ℕ) (run : List ℕ → Option Run) (free : ℕ → Bool) (count running : ℕ) (agrees : AgreesBy R jobs run free count running) where
   pub listed_active : (id : List ℕ) (k : ℕ) → list_any (λ j. eqb j k) (jobs id) ≡ is_active_of R id k

@@ -6,15 +6,15 @@ use Rattle.std.proofs.lemmas.List.Elements.{All-nil}
 use Rattle.std.proofs.lemmas.List.Sums.{count_by-le-length}
 use Rattle.ws_action.specs.Actions.{Action}
 use Rattle.ws_board.specs.declared.work.Event.{Event}
-use Rattle.ws_board.specs.declared.work.Status.TheVariants.{Running}
+use Rattle.ws_board.specs.declared.work.JobStatus.TheVariants.{Running}
 use Rattle.ws_board.specs.declared.table.Row.{Row}
 use Rattle.ws_board.specs.declared.rows.Rows.{Rows}
 use Rattle.ws_board.specs.declared.rows.moves.Change.{Change}
 use Rattle.ws_board.specs.declared.rows.moves.Moves.{Moves}
-use Rattle.ws_board.specs.Work.{Job, Entries, Standings, Seen}
+use Rattle.ws_board.specs.Work.{Job, Entries, JobStates, Seen}
 use Rattle.ws_board.specs.Machine.{is_running, status_at, is_back_of, IsRunBy, IsHistory}
-use Rattle.ws_board.specs.Rows.{owed, is_back, import_count, undone, AreWritten, IsUndone, AreCarriedBy, Waits, KnowsBacks, IsPaid, IsBounded}
-use Rattle.ws_board.specs.Table.{row_at, standings_of}
+use Rattle.ws_board.specs.Rows.{owed, is_back, import_count, undone, AreWritten, IsUndone, ArePropagatedBy, Waits, KnowsBacks, IsPaid, IsBounded}
+use Rattle.ws_board.specs.Table.{row_at, job_states_of}
 use Rattle.ws_board.proofs.Runs.{counted_none}
 use Rattle.ws_board.proofs.Standing.{status_row, action_row}
 use Rattle.ws_board.proofs.Onward.{waits_parts}
@@ -54,21 +54,21 @@ still_backs R N history all e count same is not knows k lt = same k ∙ knows k 
 
 -- ---- who runs
 
-pub run_row : (R : List Row) (hand k : ℕ) (action : Action) → IsRunBy (standings_of R) hand k action → ((row_at R k).status ≡ Running hand) × ((row_at R k).action ≡ Some action)
+pub run_row : (R : List Row) (hand k : ℕ) (action : Action) → IsRunBy (job_states_of R) hand k action → ((row_at R k).status ≡ Running hand) × ((row_at R k).action ≡ Some action)
 run_row R hand k action run = (sym (status_row R k) ∙ run.runs, sym (action_row R k) ∙ run.its)
 
-pub row_run : (R : List Row) (hand k : ℕ) (action : Action) → (row_at R k).status ≡ Running hand → (row_at R k).action ≡ Some action → IsRunBy (standings_of R) hand k action
+pub row_run : (R : List Row) (hand k : ℕ) (action : Action) → (row_at R k).status ≡ Running hand → (row_at R k).action ≡ Some action → IsRunBy (job_states_of R) hand k action
 row_run R hand k action runs its = record { runs = status_row R k ∙ runs; its = action_row R k ∙ its }
 
-pub runs_some : (R : List Row) (hand k : ℕ) → (row_at R k).status ≡ Running hand → 0 < count_by is_running (standings_of R).statuses
-runs_some R hand k runs = positive (count_by is_running (standings_of R).statuses) (λ none. counted_none (standings_of R).statuses none k (ap is_running (status_row R k ∙ runs)))
+pub runs_some : (R : List Row) (hand k : ℕ) → (row_at R k).status ≡ Running hand → 0 < count_by is_running (job_states_of R).statuses
+runs_some R hand k runs = positive (count_by is_running (job_states_of R).statuses) (λ none. counted_none (job_states_of R).statuses none k (ap is_running (status_row R k ∙ runs)))
   where
     positive : (n : ℕ) → (n ≡ 0 → ⊥) → 0 < n
     positive zero h = absurd (h refl)
     positive (suc n) h = omega arith
 
-pub none_runs_of : (R : List Row) → count_by is_running (standings_of R).statuses ≡ 0 → (k : ℕ) → is_running (status_at (standings_of R).statuses k) ≡ false
-none_runs_of R none k = not (is_running (status_at (standings_of R).statuses k)) (λ runs. counted_none (standings_of R).statuses none k runs)
+pub none_runs_of : (R : List Row) → count_by is_running (job_states_of R).statuses ≡ 0 → (k : ℕ) → is_running (status_at (job_states_of R).statuses k) ≡ false
+none_runs_of R none k = not (is_running (status_at (job_states_of R).statuses k)) (λ runs. counted_none (job_states_of R).statuses none k runs)
   where
     not : (b : Bool) → (b ≡ true → ⊥) → b ≡ false
     not true h = absurd (h refl)
@@ -80,11 +80,11 @@ not_running r (suc n) iff no_run = let c : true ≡ false = sym (iff.1 (omega ar
 
 -- ---- a board's parts, where the jobs are the same
 
-pub moved : (J K : List Job) (I L : List (List ℕ)) (R : List Row) (cache added : Entries) (history : List Event) (now : Standings) (looks backs : ℕ) → K ≡ J → L ≡ I → standings_of R ≡ now
-    → IsHistory (record { jobs = J; cache = cache }) history (record { standings = now; added = added }) → AreCarriedBy J I R → Waits J R [] (λ j. false) → IsPaid looks R (import_count J) backs
-    → IsHistory (record { jobs = K; cache = cache }) history (record { standings = standings_of R; added = added }) × AreCarriedBy K L R × Waits K R [] (λ j. false) × IsPaid looks R (import_count K) backs
+pub moved : (J K : List Job) (I L : List (List ℕ)) (R : List Row) (cache added : Entries) (history : List Event) (now : JobStates) (looks backs : ℕ) → K ≡ J → L ≡ I → job_states_of R ≡ now
+    → IsHistory (record { jobs = J; cache = cache }) history (record { standings = now; added = added }) → ArePropagatedBy J I R → Waits J R [] (λ j. false) → IsPaid looks R (import_count J) backs
+    → IsHistory (record { jobs = K; cache = cache }) history (record { standings = job_states_of R; added = added }) × ArePropagatedBy K L R × Waits K R [] (λ j. false) × IsPaid looks R (import_count K) backs
 moved J K I L R cache added history now looks backs jobs importers stands legal good waits paid = (
-  subst (λ l. IsHistory (record { jobs = l; cache = cache }) history (record { standings = standings_of R; added = added })) (sym jobs)
+  subst (λ l. IsHistory (record { jobs = l; cache = cache }) history (record { standings = job_states_of R; added = added })) (sym jobs)
       (subst (λ s. IsHistory (record { jobs = J; cache = cache }) history (record { standings = s; added = added })) (sym stands) legal),
   good_parts J K I L R jobs importers good,
   waits_parts J K R R [] [] (λ j. false) jobs refl refl waits,
@@ -92,7 +92,7 @@ moved J K I L R cache added history now looks backs jobs importers stands legal 
 )
 
 -- what is owed bounds what is read of it
-pub within : (J K : List Job) (I : List (List ℕ)) (R : List Row) (looks backs : ℕ) → K ≡ J → AreCarriedBy J I R → IsPaid looks R (import_count J) backs → IsBounded looks (length K) (import_count K) backs
+pub within : (J K : List Job) (I : List (List ℕ)) (R : List Row) (looks backs : ℕ) → K ≡ J → ArePropagatedBy J I R → IsPaid looks R (import_count J) backs → IsBounded looks (length K) (import_count K) backs
 within J K I R looks backs jobs good paid = bounded looks R (length K) (import_count K) backs (ap length jobs ∙ sym good.known.jobs) (subst (λ l. IsPaid looks R (import_count l) backs) (sym jobs) paid)
 
 -- ---- want of memory
@@ -108,14 +108,14 @@ pub out_again : (start now end more : List ℕ) → now ≡ start ++ more → no
 out_again start now end more joined left = append_cancel_right end start more (sym left ∙ joined)
 
 pub seen_same : (J K : List Job) (R N : List Row) (opened added more : Entries) (history : List Event) (looks : ℕ) → K ≡ J → N ≡ R → more ≡ added
-    → ◌≡◌ {A = Seen} (record { opening = record { jobs = K; cache = opened }; state = record { standings = standings_of N; added = more }; history = history; looks = looks }) (record { opening = record { jobs = J; cache = opened }; state = record { standings = standings_of R; added = added }; history = history; looks = looks })
-seen_same J K R N opened added more history looks jobs rows same = λ i. record { opening = record { jobs = jobs i; cache = opened }; state = record { standings = standings_of (rows i); added = same i }; history = history; looks = looks }
+    → ◌≡◌ {A = Seen} (record { opening = record { jobs = K; cache = opened }; state = record { standings = job_states_of N; added = more }; history = history; looks = looks }) (record { opening = record { jobs = J; cache = opened }; state = record { standings = job_states_of R; added = added }; history = history; looks = looks })
+seen_same J K R N opened added more history looks jobs rows same = λ i. record { opening = record { jobs = jobs i; cache = opened }; state = record { standings = job_states_of (rows i); added = same i }; history = history; looks = looks }
 
 -- all is as it was, where the rows were put back
 pub unmoved : (J K : List Job) (I L : List (List ℕ)) (R N : List Row) (cache added more : Entries) (history : List Event) (looks backs : ℕ) → K ≡ J → L ≡ I → N ≡ R → more ≡ added
-    → IsHistory (record { jobs = J; cache = cache }) history (record { standings = standings_of R; added = added }) → AreCarriedBy J I R → Waits J R [] (λ j. false) → IsPaid looks R (import_count J) backs
-    → IsHistory (record { jobs = K; cache = cache }) history (record { standings = standings_of N; added = more }) × AreCarriedBy K L N × Waits K N [] (λ j. false) × IsPaid looks N (import_count K) backs
+    → IsHistory (record { jobs = J; cache = cache }) history (record { standings = job_states_of R; added = added }) → ArePropagatedBy J I R → Waits J R [] (λ j. false) → IsPaid looks R (import_count J) backs
+    → IsHistory (record { jobs = K; cache = cache }) history (record { standings = job_states_of N; added = more }) × ArePropagatedBy K L N × Waits K N [] (λ j. false) × IsPaid looks N (import_count K) backs
 unmoved J K I L R N cache added more history looks backs jobs importers rows same legal good waits paid =
-    moved J K I L N cache more history (standings_of R) looks backs jobs importers (ap standings_of rows)
-    (subst (λ m. IsHistory (record { jobs = J; cache = cache }) history (record { standings = standings_of R; added = m })) (sym same) legal)
-    (subst (AreCarriedBy J I) (sym rows) good) (subst (λ r. Waits J r [] (λ j. false)) (sym rows) waits) (subst (λ r. IsPaid looks r (import_count J) backs) (sym rows) paid)
+    moved J K I L N cache more history (job_states_of R) looks backs jobs importers (ap job_states_of rows)
+    (subst (λ m. IsHistory (record { jobs = J; cache = cache }) history (record { standings = job_states_of R; added = m })) (sym same) legal)
+    (subst (ArePropagatedBy J I) (sym rows) good) (subst (λ r. Waits J r [] (λ j. false)) (sym rows) waits) (subst (λ r. IsPaid looks r (import_count J) backs) (sym rows) paid)

@@ -7,41 +7,41 @@ use Rattle.std.proofs.lemmas.List.Sums.{sum_by-set}
 use Rattle.std.proofs.lemmas.Bool.{cases_eq}
 use Rattle.std.proofs.lemmas.Option.{slice_get_past, unwrap_or-slice_get}
 use Rattle.ws_action.specs.Actions.{Action, action_id}
-use Rattle.ws_board.specs.declared.work.Status.{Status}
-use Rattle.ws_board.specs.declared.work.Status.TheVariants.{Waiting, Ready, Running, Blocked, Done}
-use Rattle.ws_board.specs.Work.{Job, Standings}
-use Rattle.ws_board.specs.Machine.{Held, is_open, is_waiting, status_at, action_at, Verdict, Wait, Stop, Act, Follows, IsPlaced, Stands, Carried}
-use Rattle.ws_board.specs.Carrying.{IsUnder}
+use Rattle.ws_board.specs.declared.work.JobStatus.{JobStatus}
+use Rattle.ws_board.specs.declared.work.JobStatus.TheVariants.{Waiting, Ready, Running, Blocked, Done}
+use Rattle.ws_board.specs.Work.{Job, JobStates}
+use Rattle.ws_board.specs.Machine.{Holdings, is_open, is_waiting, status_at, action_at, Readiness, Wait, Stop, Act, Follows, IsPlaced, HasStatus, Propagated}
+use Rattle.ws_board.specs.Propagation.{IsUnder}
 use Rattle.ws_board.proofs.Later.{Later, stands_stays}
 
 -- the two agree wherever the first is settled
-abbrev pub Agrees : (ℕ → Status) → (ℕ → Status) → Type 0
+abbrev pub Agrees : (ℕ → JobStatus) → (ℕ → JobStatus) → Type 0
 Agrees f g = (k : ℕ) → is_open (f k) ≡ false → g k ≡ f k
 
-pub waiting_is : (s : Status) → is_waiting s ≡ true → s ≡ Waiting
+pub waiting_is : (s : JobStatus) → is_waiting s ≡ true → s ≡ Waiting
 waiting_is Waiting h = refl
 waiting_is Ready h = absurd (cc)
 waiting_is (Running hand) h = absurd (cc)
 waiting_is Blocked h = absurd (cc)
 waiting_is (Done good) h = absurd (cc)
 
-pub waiting_or : (s : Status) → (is_waiting s ≡ true) ⊎ (is_waiting s ≡ false)
+pub waiting_or : (s : JobStatus) → (is_waiting s ≡ true) ⊎ (is_waiting s ≡ false)
 waiting_or Waiting = inl refl
 waiting_or Ready = inr refl
 waiting_or (Running hand) = inr refl
 waiting_or Blocked = inr refl
 waiting_or (Done good) = inr refl
 
-pub past_end : (xs : List Status) (j : ℕ) → length xs ≤ j → status_at xs j ≡ Blocked
+pub past_end : (xs : List JobStatus) (j : ℕ) → length xs ≤ j → status_at xs j ≡ Blocked
 past_end xs j le = sym (unwrap_or-slice_get xs j Blocked) ∙ ap (λ o. unwrap_or o Blocked) (slice_get_past xs j le)
 
 -- ---- on the way
 
-pub start_under : (jobs : List Job) (h : Held) (first : Standings) → ((k : ℕ) → status_at first.statuses k ≡ Waiting → action_at first.actions k ≡ None) → IsUnder jobs h first first
+pub start_under : (jobs : List Job) (h : Holdings) (first : JobStates) → ((k : ℕ) → status_at first.statuses k ≡ Waiting → action_at first.actions k ≡ None) → IsUnder jobs h first first
 start_under jobs h first bare = record { same_length = (refl, refl); others = λ j w. (refl, refl); waiting = λ j w. inl (waiting_is (status_at first.statuses j) w); bare = bare }
 
-module _ (jobs : List Job) (h : Held) (old new : Standings) (j : ℕ) (s : Status) (x : Option Action)
-    (inside : j < length old.statuses) (within : j < length old.actions) (waits : status_at old.statuses j ≡ Waiting) (stands : Stands h old (slice_get jobs j) s x) (not : is_waiting s ≡ false)
+module _ (jobs : List Job) (h : Holdings) (old new : JobStates) (j : ℕ) (s : JobStatus) (x : Option Action)
+    (inside : j < length old.statuses) (within : j < length old.actions) (waits : status_at old.statuses j ≡ Waiting) (stands : HasStatus h old (slice_get jobs j) s x) (not : is_waiting s ≡ false)
     (statuses : new.statuses ≡ set old.statuses j s) (actions : new.actions ≡ set old.actions j x) where
   here : status_at new.statuses j ≡ s
   here = ap (λ xs. status_at xs j) statuses ∙ get_or-set_same old.statuses j s Blocked inside
@@ -61,22 +61,22 @@ module _ (jobs : List Job) (h : Held) (old new : Standings) (j : ℕ) (s : Statu
   set_later : Later h h old new
   set_later = record { settled = λ k shut. (other k (apart k shut), other_action k (apart k shut)); keeps = λ k good a done its. refl }
 
-  stands_here : Stands h new (slice_get jobs j) (status_at new.statuses j) (action_at new.actions j)
+  stands_here : HasStatus h new (slice_get jobs j) (status_at new.statuses j) (action_at new.actions j)
   stands_here =
-      subst (λ t. Stands h new (slice_get jobs j) t (action_at new.actions j)) (sym here)
-      (subst (λ t. Stands h new (slice_get jobs j) s t) (sym here_action) (stands_stays h old new set_later (slice_get jobs j) s x not stands))
+      subst (λ t. HasStatus h new (slice_get jobs j) t (action_at new.actions j)) (sym here)
+      (subst (λ t. HasStatus h new (slice_get jobs j) s t) (sym here_action) (stands_stays h old new set_later (slice_get jobs j) s x not stands))
 
-  keep_other : (k : ℕ) → (k ≡ j → ⊥) → (status_at old.statuses k ≡ Waiting) ⊎ Stands h old (slice_get jobs k) (status_at old.statuses k) (action_at old.actions k)
-      → (status_at new.statuses k ≡ Waiting) ⊎ Stands h new (slice_get jobs k) (status_at new.statuses k) (action_at new.actions k)
+  keep_other : (k : ℕ) → (k ≡ j → ⊥) → (status_at old.statuses k ≡ Waiting) ⊎ HasStatus h old (slice_get jobs k) (status_at old.statuses k) (action_at old.actions k)
+      → (status_at new.statuses k ≡ Waiting) ⊎ HasStatus h new (slice_get jobs k) (status_at new.statuses k) (action_at new.actions k)
   keep_other k ne (inl w) = inl (other k ne ∙ w)
   keep_other k ne (inr st) = elim (waiting_or (status_at old.statuses k)) [
     | inl w ↦ inl (other k ne ∙ waiting_is (status_at old.statuses k) w)
-    | inr w ↦ inr (subst (λ t. Stands h new (slice_get jobs k) t (action_at new.actions k)) (sym (other k ne))
-        (subst (λ t. Stands h new (slice_get jobs k) (status_at old.statuses k) t) (sym (other_action k ne))
+    | inr w ↦ inr (subst (λ t. HasStatus h new (slice_get jobs k) t (action_at new.actions k)) (sym (other k ne))
+        (subst (λ t. HasStatus h new (slice_get jobs k) (status_at old.statuses k) t) (sym (other_action k ne))
         (stands_stays h old new set_later (slice_get jobs k) (status_at old.statuses k) (action_at old.actions k) w st)))
   ]
 
-  pub keep_under : (first : Standings) → IsUnder jobs h first old → IsUnder jobs h first new
+  pub keep_under : (first : JobStates) → IsUnder jobs h first old → IsUnder jobs h first new
   keep_under first under = record {
     same_length = (ap length statuses ∙ length-set old.statuses j s ∙ under.same_length.0, ap length actions ∙ length-set old.actions j x ∙ under.same_length.1);
     others = λ k n. elim (cases_eq k j) [
@@ -84,7 +84,7 @@ module _ (jobs : List Job) (h : Held) (old new : Standings) (j : ℕ) (s : Statu
       | inr ne ↦ (other k ne ∙ (under.others k n).0, other_action k ne ∙ (under.others k n).1)
     ];
     waiting = λ k n. elim (cases_eq k j) [
-      | inl e ↦ inr (subst (λ i. Stands h new (slice_get jobs i) (status_at new.statuses i) (action_at new.actions i)) (sym e) stands_here)
+      | inl e ↦ inr (subst (λ i. HasStatus h new (slice_get jobs i) (status_at new.statuses i) (action_at new.actions i)) (sym e) stands_here)
       | inr ne ↦ keep_other k ne (under.waiting k n)
     ];
     bare = λ k w. elim (cases_eq k j) [
@@ -94,17 +94,17 @@ module _ (jobs : List Job) (h : Held) (old new : Standings) (j : ℕ) (s : Statu
   }
 
 -- if this job waits, its imports say so
-abbrev pub RestsAt : List Job → Held → Standings → ℕ → Type 0
-RestsAt jobs h now j = status_at now.statuses j ≡ Waiting → Stands h now (slice_get jobs j) Waiting None
+abbrev pub RestsAt : List Job → Holdings → JobStates → ℕ → Type 0
+RestsAt jobs h now j = status_at now.statuses j ≡ Waiting → HasStatus h now (slice_get jobs j) Waiting None
 
-end_waiting : (jobs : List Job) (h : Held) (new : Standings) (k : ℕ) → RestsAt jobs h new k → (status_at new.statuses k ≡ Waiting → action_at new.actions k ≡ None)
-    → (status_at new.statuses k ≡ Waiting) ⊎ Stands h new (slice_get jobs k) (status_at new.statuses k) (action_at new.actions k)
-    → Stands h new (slice_get jobs k) (status_at new.statuses k) (action_at new.actions k)
+end_waiting : (jobs : List Job) (h : Holdings) (new : JobStates) (k : ℕ) → RestsAt jobs h new k → (status_at new.statuses k ≡ Waiting → action_at new.actions k ≡ None)
+    → (status_at new.statuses k ≡ Waiting) ⊎ HasStatus h new (slice_get jobs k) (status_at new.statuses k) (action_at new.actions k)
+    → HasStatus h new (slice_get jobs k) (status_at new.statuses k) (action_at new.actions k)
 end_waiting jobs h new k rests bare (inl w) =
-    subst (λ t. Stands h new (slice_get jobs k) t (action_at new.actions k)) (sym w) (subst (λ t. Stands h new (slice_get jobs k) Waiting t) (sym (bare w)) (rests w))
+    subst (λ t. HasStatus h new (slice_get jobs k) t (action_at new.actions k)) (sym w) (subst (λ t. HasStatus h new (slice_get jobs k) Waiting t) (sym (bare w)) (rests w))
 end_waiting jobs h new k rests bare (inr s) = s
 
-pub end_carried : (jobs : List Job) (h : Held) (first new : Standings) → IsUnder jobs h first new → ((j : ℕ) → RestsAt jobs h new j) → Carried jobs h first new
+pub end_carried : (jobs : List Job) (h : Holdings) (first new : JobStates) → IsUnder jobs h first new → ((j : ℕ) → RestsAt jobs h new j) → Propagated jobs h first new
 end_carried jobs h first new under rest = record {
   same_length = under.same_length;
   others = under.others;
@@ -112,7 +112,7 @@ end_carried jobs h first new under rest = record {
 }
 
 -- what waits has no action
-pub waits_bare : (h : Held) (now : Standings) (o : Option Job) (s : Status) (x : Option Action) → Stands h now o s x → s ≡ Waiting → x ≡ None
+pub waits_bare : (h : Holdings) (now : JobStates) (o : Option Job) (s : JobStatus) (x : Option Action) → HasStatus h now o s x → s ≡ Waiting → x ≡ None
 waits_bare h now None s x st w = st.1
 waits_bare h now (Some job) s x st w = by_verdict st.0 st.2
   where
@@ -120,14 +120,14 @@ waits_bare h now (Some job) s x st w = by_verdict st.0 st.2
     placed a None p = let c : Ready ≡ Waiting = sym p ∙ w in absurd (cc)
     placed a (Some e) p = let c : Done p.0 ≡ Waiting = sym p.2 ∙ w in absurd (cc)
 
-    by_verdict : (v : Verdict) → Follows h v s x → x ≡ None
+    by_verdict : (v : Readiness) → Follows h v s x → x ≡ None
     by_verdict Wait f = f.1
     by_verdict Stop f = f.1
     by_verdict (Act a) f = placed a (h (action_id a)) f.0
 
 -- ---- fewer wait
 
-pub fewer : (xs : List Status) (j : ℕ) (now : Status) → j < length xs → status_at xs j ≡ Waiting → is_waiting now ≡ false → count_by is_waiting (set xs j now) < count_by is_waiting xs
+pub fewer : (xs : List JobStatus) (j : ℕ) (now : JobStatus) → j < length xs → status_at xs j ≡ Waiting → is_waiting now ≡ false → count_by is_waiting (set xs j now) < count_by is_waiting xs
 fewer xs j now inside w not =
     let e = sum_by-set (λ s. cond (is_waiting s) 1 0) xs j now Blocked inside in
     let a : ◌≡◌ {A = ℕ} (cond (is_waiting (get_or xs j Blocked)) 1 0) 1 = ap (λ s. cond (is_waiting s) 1 0) w in
@@ -136,14 +136,14 @@ fewer xs j now inside w not =
 
 -- ---- carried on
 
-pub shut_waits_not : (s : Status) → is_open s ≡ false → is_waiting s ≡ false
+pub shut_waits_not : (s : JobStatus) → is_open s ≡ false → is_waiting s ≡ false
 shut_waits_not Waiting h = let c : true ≡ false = h in absurd (cc)
 shut_waits_not Ready h = refl
 shut_waits_not (Running hand) h = refl
 shut_waits_not Blocked h = refl
 shut_waits_not (Done good) h = refl
 
-pub carried_agrees : (jobs : List Job) (h : Held) (old new : Standings) → Carried jobs h old new → Agrees (status_at old.statuses) (status_at new.statuses)
+pub carried_agrees : (jobs : List Job) (h : Holdings) (old new : JobStates) → Propagated jobs h old new → Agrees (status_at old.statuses) (status_at new.statuses)
 carried_agrees jobs h old new c k shut = (c.others k (shut_waits_not (status_at old.statuses k) shut)).0
 
 -- ---- at first

@@ -6,16 +6,16 @@ use Rattle.std.specs.Str.{bytes_eq}
 use Rattle.std.proofs.lemmas.Bool.{cases_lt}
 use Rattle.std.proofs.lemmas.List.Sums.{sum_by-append}
 use Rattle.ws_action.specs.Actions.{Action, action_id}
-use Rattle.ws_board.specs.declared.work.Status.{Status}
-use Rattle.ws_board.specs.declared.work.Status.TheVariants.{Waiting, Ready, Running, Blocked, Done}
+use Rattle.ws_board.specs.declared.work.JobStatus.{JobStatus}
+use Rattle.ws_board.specs.declared.work.JobStatus.TheVariants.{Waiting, Ready, Running, Blocked, Done}
 use Rattle.ws_board.specs.declared.table.Row.{Row}
 use Rattle.ws_board.specs.declared.index.Run.{Run}
 use Rattle.ws_board.specs.declared.index.Ready.{Ready as AReady}
-use Rattle.ws_board.specs.Work.{Job, Standings}
-use Rattle.ws_board.specs.Machine.{Held, is_waiting, is_ready, is_active, is_running, has_action_id, Carried}
-use Rattle.ws_board.specs.Carrying.{IsUnder}
-use Rattle.ws_board.specs.Rows.{times, those_of, is_new, AreFirst, AreCarriedBy, Marks, Waits}
-use Rattle.ws_board.specs.Table.{row_at, standings_of}
+use Rattle.ws_board.specs.Work.{Job, JobStates}
+use Rattle.ws_board.specs.Machine.{Holdings, is_waiting, is_ready, is_active, is_running, has_action_id, Propagated}
+use Rattle.ws_board.specs.Propagation.{IsUnder}
+use Rattle.ws_board.specs.Rows.{times, those_of, is_newly_ready, AreFirstRows, ArePropagatedBy, Marks, Waits}
+use Rattle.ws_board.specs.Table.{row_at, job_states_of}
 use Rattle.ws_board.specs.Indexes.{AgreesBy, is_unrun}
 use Rattle.ws_board.proofs.Runs.{none_counted}
 use Rattle.ws_board.proofs.Standing.{status_row, row_past}
@@ -25,10 +25,10 @@ use Rattle.ws_board.proofs.Agreeing.{released_agrees}
 use Rattle.ws_board.proofs.Ids.{at_id, off_id, same_id_or}
 use Rattle.ws_board.proofs.Noting.{done_agrees}
 
-module _ (J : List Job) (h : Held) (I : List (List ℕ)) (O M N : List Row) (from : AreCarriedBy J I M) (good : AreCarriedBy J I N)
-    (under : (first : Standings) → IsUnder J h first (standings_of M) → IsUnder J h first (standings_of N))
+module _ (J : List Job) (h : Holdings) (I : List (List ℕ)) (O M N : List Row) (from : ArePropagatedBy J I M) (good : ArePropagatedBy J I N)
+    (under : (first : JobStates) → IsUnder J h first (job_states_of M) → IsUnder J h first (job_states_of N))
     (waits : Waits J N [] (λ j. false)) where
-  pub closing : Carried J h (standings_of M) (standings_of N)
+  pub closing : Propagated J h (job_states_of M) (job_states_of N)
   closing = carried_on J h I M N from good under waits
 
   pub closing_others : (k : ℕ) → is_waiting (row_at M k).status ≡ false → ((row_at N k).status ≡ (row_at M k).status) × ((row_at N k).action ≡ (row_at M k).action)
@@ -40,8 +40,8 @@ module _ (J : List Job) (h : Held) (I : List (List ℕ)) (O M N : List Row) (fro
   pub finish_agrees : (jobs : List ℕ → List ℕ) (run : List ℕ → Option Run) (free : ℕ → Bool) (count running : ℕ) → AgreesBy O jobs run free count running
       → (id : List ℕ) (good : Bool) (settled : List ℕ) → Marks id good O M settled → (hand k : ℕ) (action : Action) → (row_at O k).status ≡ Running hand → (row_at O k).action ≡ Some action → action_id action ≡ id → k < length O
       → (e : Action) → h id ≡ Some e
-      → (ready : List AReady) → ((k : ℕ) (i : List ℕ) → times k (those_of i ready) ≡ (if is_new M N i k then 1 else 0))
-      → count_by is_running (standings_of N).statuses ≡ count_by is_running (standings_of M).statuses
+      → (ready : List AReady) → ((k : ℕ) (i : List ℕ) → times k (those_of i ready) ≡ (if is_newly_ready M N i k then 1 else 0))
+      → count_by is_running (job_states_of N).statuses ≡ count_by is_running (job_states_of M).statuses
       → (more ended : List ℕ → List ℕ) → ((i : List ℕ) → more i ≡ jobs i ++ those_of i ready) → ((i : List ℕ) → ended i ≡ (if bytes_eq id i then [] else more i))
       → (ran : List ℕ → Option Run) → ((i : List ℕ) → ran i ≡ (if bytes_eq id i then None else run i))
       → (freed : ℕ → Bool) → ((k : ℕ) → freed k ≡ (if list_any (λ one. (eqb one.job k) && is_none (ran one.id)) ready then true else free k))
@@ -52,7 +52,7 @@ module _ (J : List Job) (h : Held) (I : List (List ℕ)) (O M N : List Row) (fro
       (done_agrees O M jobs run free count running agrees id done settled marks hand k action runs its same inside now less)
       (good.known.jobs ∙ sym from.known.jobs) closing_others closing_rests listed_by still joined ran_is freed_is
     where
-      listed_by : (k : ℕ) (i : List ℕ) → times k (those_of i ready) ≡ (if is_new M N i k then 1 else 0)
+      listed_by : (k : ℕ) (i : List ℕ) → times k (those_of i ready) ≡ (if is_newly_ready M N i k then 1 else 0)
       listed_by = listed
 
       none : (k : ℕ) → times k (those_of id ready) ≡ 0
@@ -76,8 +76,8 @@ module _ (J : List Job) (h : Held) (I : List (List ℕ)) (O M N : List Row) (fro
 
 -- ---- the opening
 
-module _ (J : List Job) (h : Held) (I : List (List ℕ)) (O N : List Row) (first : AreFirst J I (length J) O) (from : AreCarriedBy J I O) (good : AreCarriedBy J I N)
-    (under : (start : Standings) → IsUnder J h start (standings_of O) → IsUnder J h start (standings_of N))
+module _ (J : List Job) (h : Holdings) (I : List (List ℕ)) (O N : List Row) (first : AreFirstRows J I (length J) O) (from : ArePropagatedBy J I O) (good : ArePropagatedBy J I N)
+    (under : (start : JobStates) → IsUnder J h start (job_states_of O) → IsUnder J h start (job_states_of N))
     (waits : Waits J N [] (λ j. false)) where
   first_status : (k : ℕ) → (is_active (row_at O k).status ≡ false) × (is_running (row_at O k).status ≡ false)
   first_status k = elim (cases_lt k (length J)) [
@@ -85,8 +85,8 @@ module _ (J : List Job) (h : Held) (I : List (List ℕ)) (O N : List Row) (first
     | inr le ↦ (let b : (row_at O k).status ≡ Blocked = ap (λ (r : Row). r.status) (row_past O k (omega (arith, le, first.count))) in (ap is_active b, ap is_running b))
   ]
 
-  first_none : count_by is_running (standings_of O).statuses ≡ 0
-  first_none = none_counted (standings_of O).statuses (λ k. ap is_running (status_row O k) ∙ (first_status k).1)
+  first_none : count_by is_running (job_states_of O).statuses ≡ 0
+  first_none = none_counted (job_states_of O).statuses (λ k. ap is_running (status_row O k) ∙ (first_status k).1)
 
   empty_free : (n k : ℕ) → get_or (replicate n false) k false ≡ false
   empty_free zero k = refl
@@ -95,8 +95,8 @@ module _ (J : List Job) (h : Held) (I : List (List ℕ)) (O N : List Row) (first
 
   pub opened_agrees : (jobs more : List ℕ → List ℕ) (run ran : List ℕ → Option Run) (free freed : ℕ → Bool) (count now : ℕ) (ready : List AReady)
       → ((id : List ℕ) → jobs id ≡ []) → ((id : List ℕ) → run id ≡ None) → ((k : ℕ) → free k ≡ get_or (replicate (length J) false) k false) → count ≡ length J → now ≡ 0
-      → ((k : ℕ) (i : List ℕ) → times k (those_of i ready) ≡ (if is_new O N i k then 1 else 0))
-      → count_by is_running (standings_of N).statuses ≡ count_by is_running (standings_of O).statuses
+      → ((k : ℕ) (i : List ℕ) → times k (those_of i ready) ≡ (if is_newly_ready O N i k then 1 else 0))
+      → count_by is_running (job_states_of N).statuses ≡ count_by is_running (job_states_of O).statuses
       → ((i : List ℕ) → more i ≡ jobs i ++ those_of i ready) → ((i : List ℕ) → ran i ≡ run i)
       → ((k : ℕ) → freed k ≡ (if list_any (λ one. (eqb one.job k) && is_none (ran one.id)) ready then true else free k))
       → AgreesBy N more ran freed count now
@@ -117,7 +117,7 @@ module _ (J : List Job) (h : Held) (I : List (List ℕ)) (O N : List Row) (first
         running = still_none ∙ sym first_none;
       }
         where
-          idle_ready : (s : Status) (b : Bool) → is_active s ≡ false → (is_ready s && b) ≡ false
+          idle_ready : (s : JobStatus) (b : Bool) → is_active s ≡ false → (is_ready s && b) ≡ false
           idle_ready Waiting b e = refl
           idle_ready Ready b e = absurd (cc)
           idle_ready (Running hand) b e = refl

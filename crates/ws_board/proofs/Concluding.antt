@@ -13,11 +13,11 @@ use Rattle.ws_board.specs.declared.rows.Rows.{Rows}
 use Rattle.ws_board.specs.declared.rows.moves.Moves.{Moves}
 use Rattle.ws_board.specs.declared.index.Ready.{Ready as AReady}
 use Rattle.ws_board.specs.declared.index.Index.{Index}
-use Rattle.ws_board.specs.Work.{Job, Standings}
-use Rattle.ws_board.specs.Machine.{Held, is_back_of, is_open, is_waiting, is_ready, has_action_id, Carried, IsMarked, IsRunBy, unopened}
-use Rattle.ws_board.specs.Rows.{times, those_of, is_new, owed, untold, import_count, is_back, AreFirst, AreCarriedBy, AreCarried, CarriesOn, Waits, FinishesRows, KnowsBacks, IsPaid}
-use Rattle.ws_board.specs.Table.{row_at, standings_of}
-use Rattle.ws_board.specs.Indexes.{id_in, jobs_of, run_of, jobs_in, run_in, is_free_in, is_released, Changes, IsSameBut, AgreesBy, Agrees}
+use Rattle.ws_board.specs.Work.{Job, JobStates}
+use Rattle.ws_board.specs.Machine.{Holdings, is_back_of, is_open, is_waiting, is_ready, has_action_id, Propagated, IsMarked, IsRunBy, unopened}
+use Rattle.ws_board.specs.Rows.{times, those_of, is_newly_ready, owed, untold, import_count, is_back, AreFirstRows, ArePropagatedBy, ArePropagated, Propagates, Waits, FinishesRows, KnowsBacks, IsPaid}
+use Rattle.ws_board.specs.Table.{row_at, job_states_of}
+use Rattle.ws_board.specs.Indexes.{id_in, jobs_of, run_of, jobs_in, run_in, is_free_in, is_released, ChangesIndex, IsSameBut, AgreesBy, Agrees}
 use Rattle.ws_board.proofs.Standing.{open_inside}
 use Rattle.ws_board.proofs.Marking.{marked_is}
 use Rattle.ws_board.proofs.Importing.{first_owes}
@@ -55,10 +55,10 @@ one_of : (b : Bool) → 0 < (if b then 1 else 0) → b ≡ true
 one_of true h = refl
 one_of false h = absurd (omega (arith, h))
 
-pub ready_inside : (O N : List Row) (ready : List AReady) → ((k : ℕ) (i : List ℕ) → times k (those_of i ready) ≡ (if is_new O N i k then 1 else 0)) → All (λ (one : AReady). one.job < length N) ready
+pub ready_inside : (O N : List Row) (ready : List AReady) → ((k : ℕ) (i : List ℕ) → times k (those_of i ready) ≡ (if is_newly_ready O N i k then 1 else 0)) → All (λ (one : AReady). one.job < length N) ready
 ready_inside O N ready listed n d lt =
     let one = get_or ready n d in
-    let new : is_new O N one.id one.job ≡ true = one_of (is_new O N one.id one.job) (subst (λ m. 0 < m) (listed one.job one.id) (those_has ready n d lt)) in
+    let new : is_newly_ready O N one.id one.job ≡ true = one_of (is_newly_ready O N one.id one.job) (subst (λ m. 0 < m) (listed one.job one.id) (those_has ready n d lt)) in
     let r = both_of (is_waiting (row_at O one.job).status) (is_ready (row_at N one.job).status && has_action_id one.id (row_at N one.job).action) new in
     let s = both_of (is_ready (row_at N one.job).status) (has_action_id one.id (row_at N one.job).action) r.1 in
     open_inside N one.job (ap is_open (ready_is (row_at N one.job).status s.0))
@@ -78,11 +78,11 @@ index_still R N x y rows agrees jobs but =
 
 -- ---- a task is finished
 
-module _ (h : Held) (id : List ℕ) (good : Bool) (old new : Rows) (ready : List AReady) (done : FinishesRows h id good old new ready) where
-  pub finish_carried : Carried old.jobs.items h (standings_of done.marked) (standings_of new.rows)
+module _ (h : Holdings) (id : List ℕ) (good : Bool) (old new : Rows) (ready : List AReady) (done : FinishesRows h id good old new ready) where
+  pub finish_carried : Propagated old.jobs.items h (job_states_of done.marked) (job_states_of new.rows)
   finish_carried = closing old.jobs.items h old.importers.items old.rows done.marked new.rows done.from done.good done.under done.waits
 
-  pub finish_marked : IsMarked id good (standings_of old.rows) (standings_of done.marked)
+  pub finish_marked : IsMarked id good (job_states_of old.rows) (job_states_of done.marked)
   finish_marked = marked_is id good old.rows done.marked done.settled done.marks
 
   pub finish_count : length new.rows ≡ length old.rows
@@ -95,9 +95,9 @@ module _ (h : Held) (id : List ℕ) (good : Bool) (old new : Rows) (ready : List
       → IsPaid looks old.rows imports (count_by is_back history) → IsPaid next new.rows imports (count_by is_back all)
   finish_paid looks next imports history all hand k is more less = still_paid looks next old.rows new.rows imports history all (Finish hand k) finish_count more less is refl
 
-  module _ (x joins ends y : Index) (agrees : Agrees old.rows x) (hand k : ℕ) (action e : Action) (run : IsRunBy (standings_of old.rows) hand k action) (same : action_id action ≡ id) (there : h id ≡ Some e)
+  module _ (x joins ends y : Index) (agrees : Agrees old.rows x) (hand k : ℕ) (action e : Action) (run : IsRunBy (job_states_of old.rows) hand k action) (same : action_id action ≡ id) (there : h id ≡ Some e)
       (joined : (i : List ℕ) → jobs_in joins i ≡ jobs_in x i ++ those_of i ready) (but : IsSameBut x joins)
-      (changes : Changes joins ends id [] None) (flags : ends.free ≡ joins.free) (fewer : ends.running + 1 ≡ joins.running)
+      (changes : ChangesIndex joins ends id [] None) (flags : ends.free ≡ joins.free) (fewer : ends.running + 1 ≡ joins.running)
       (ids : y.ids ≡ ends.ids) (marks : (j : ℕ) → is_free_in y j ≡ (if is_released ends ready j then true else is_free_in ends j)) (len : length y.free ≡ length ends.free)
       (still : y.running ≡ ends.running) where
     flags_same : ends.free ≡ x.free
@@ -121,20 +121,20 @@ module _ (h : Held) (id : List ℕ) (good : Bool) (old new : Rows) (ready : List
 
 -- ---- the opening
 
-module _ (h : Held) (spare : ℕ) (old new : Rows) (before after : Moves) (looks next : ℕ) (none : before.ready.items ≡ []) (first : AreFirst old.jobs.items old.importers.items (length old.jobs.items) old.rows)
-    (from : AreCarried old) (on : CarriesOn h spare old new before after looks next) (waits : Waits new.jobs.items new.rows [] (λ j. false)) where
-  opened_good : AreCarriedBy old.jobs.items old.importers.items new.rows
+module _ (h : Holdings) (spare : ℕ) (old new : Rows) (before after : Moves) (looks next : ℕ) (none : before.ready.items ≡ []) (first : AreFirstRows old.jobs.items old.importers.items (length old.jobs.items) old.rows)
+    (from : ArePropagated old) (on : Propagates h spare old new before after looks next) (waits : Waits new.jobs.items new.rows [] (λ j. false)) where
+  opened_good : ArePropagatedBy old.jobs.items old.importers.items new.rows
   opened_good = good_parts new.jobs.items old.jobs.items new.importers.items old.importers.items new.rows (sym on.jobs) (sym on.importers) on.good
 
   opened_waits : Waits old.jobs.items new.rows [] (λ j. false)
   opened_waits = waits_parts new.jobs.items old.jobs.items new.rows new.rows [] [] (λ j. false) (sym on.jobs) refl refl waits
 
-  pub open_carried : Carried old.jobs.items h (unopened old.jobs.items) (standings_of new.rows)
+  pub open_carried : Propagated old.jobs.items h (unopened old.jobs.items) (job_states_of new.rows)
   open_carried =
-      subst (λ (s : Standings). Carried old.jobs.items h s (standings_of new.rows)) (first_standings old.jobs.items old.importers.items old.rows first)
+      subst (λ (s : JobStates). Propagated old.jobs.items h s (job_states_of new.rows)) (first_standings old.jobs.items old.importers.items old.rows first)
       (carried_on old.jobs.items h old.importers.items old.rows new.rows from opened_good on.under opened_waits)
 
-  pub opened_listed : (k : ℕ) (i : List ℕ) → times k (those_of i after.ready.items) ≡ (if is_new old.rows new.rows i k then 1 else 0)
+  pub opened_listed : (k : ℕ) (i : List ℕ) → times k (those_of i after.ready.items) ≡ (if is_newly_ready old.rows new.rows i k then 1 else 0)
   opened_listed k i =
       let e : times k (those_of i before.ready.items) ≡ 0 = ap (λ l. times k (those_of i l)) none in
       omega (arith, on.listed k i, e)
@@ -151,7 +151,7 @@ module _ (h : Held) (spare : ℕ) (old new : Rows) (before after : Moves) (looks
       (λ j. marks j ∙ ap (λ l. if is_released joins after.ready.items j then true else get_or l j false) but.free))
       ids (λ j. refl) (len ∙ ap length (but.free ∙ flags))
 
-  pub open_parts : AreCarriedBy old.jobs.items old.importers.items new.rows × Waits old.jobs.items new.rows [] (λ j. false)
+  pub open_parts : ArePropagatedBy old.jobs.items old.importers.items new.rows × Waits old.jobs.items new.rows [] (λ j. false)
   open_parts = (opened_good, opened_waits)
 
   pub open_backs : (history : List Event) → history ≡ [] → KnowsBacks new.rows history
@@ -169,7 +169,7 @@ module _ (h : Held) (spare : ℕ) (old new : Rows) (before after : Moves) (looks
       )
 
 -- what the opening may read fits
-pub open_room : (J : List Job) (I : List (List ℕ)) (R : List Row) (settled : List ℕ) (looks : ℕ) → AreFirst J I (length J) R → length I ≡ length J → sum_by (λ list. length list) I ≤ import_count J → length R < 2 ^ 63 → import_count J < 2 ^ 64 → settled ≡ [] → looks ≡ 0
+pub open_room : (J : List Job) (I : List (List ℕ)) (R : List Row) (settled : List ℕ) (looks : ℕ) → AreFirstRows J I (length J) R → length I ≡ length J → sum_by (λ list. length list) I ≤ import_count J → length R < 2 ^ 63 → import_count J < 2 ^ 64 → settled ≡ [] → looks ≡ 0
     → looks + owed R + untold I settled + (3 * length R) < 2 ^ 128
 open_room J I R settled looks first lists few rows imports none start =
     let o = first_owes J I R first lists in

@@ -5,7 +5,7 @@ use Rattle.std.proofs.Crossing.{crosses}
 use Rattle.std.proofs.MapsCrossing as maps
 use Rattle.ws_action.proofs.Crossing.{action_send, action_sync, files_send, files_sync}
 use Rattle.ws_cache.proofs.Crossing.{cache_send}
-use Rattle.ws_board.proofs.work.Status.TheSendSync as status
+use Rattle.ws_board.proofs.work.JobStatus.TheSendSync as status
 use Rattle.ws_board.proofs.work.Event.TheSendSync as event
 use Rattle.ws_board.specs.contracts.work.Identified as identified
 use Rattle.ws_board.specs.contracts.work.Work as work

@@ -11,10 +11,10 @@ use Rattle.ws_action.specs.Actions.{Action, action_id}
 use Rattle.ws_action.proofs.Members.{none_in_empty}
 use Rattle.ws_cache.specs.Held.{IsHeld, CacheStandsFor}
 use Rattle.ws_cache.proofs.Joined.{cache_stands, empty_stands, taken_stands}
-use Rattle.ws_board.specs.declared.work.Status.TheVariants.{Done}
+use Rattle.ws_board.specs.declared.work.JobStatus.TheVariants.{Done}
 use Rattle.ws_board.specs.declared.work.Event.{Event}
 use Rattle.ws_board.specs.declared.work.Event.TheVariants.{Take, Finish, Back, Idle}
-use Rattle.ws_board.specs.Work.{Entries, Opening, State, Seen}
+use Rattle.ws_board.specs.Work.{Entries, Opening, BoardState, Seen}
 use Rattle.ws_board.specs.Machine.{is_open, is_waiting, status_at, action_at, held, Finishes, BoardStep, Replays, IsFirst, IsHistory, is_finish}
 use Rattle.ws_board.specs.Ends.{AreFinished}
 use Rattle.ws_board.proofs.Runs.{finished_done, marked_done}
@@ -22,7 +22,7 @@ use Rattle.ws_board.proofs.Counts.{known, known_id, distinct_push, distinct_none
 use Rattle.ws_board.proofs.Sounds.{KeepsIn, step_keeps, step_settled, Settles, running_unheld, first_keeps}
 
 -- a job with that id is done
-pub record IsDoneFor (now : State) (id : List ℕ) : Type 0 where
+pub record IsDoneFor (now : BoardState) (id : List ℕ) : Type 0 where
   pub job : ℕ
   pub action : Action
   pub good : Bool
@@ -30,19 +30,19 @@ pub record IsDoneFor (now : State) (id : List ℕ) : Type 0 where
   pub its : action_at now.standings.actions job ≡ Some action
   pub id_is : action_id action ≡ id
 
-pub record AreEntered (opening : Opening) (now : State) (count : ℕ) (entries : List Action) : Type 0 where
+pub record AreEntered (opening : Opening) (now : BoardState) (count : ℕ) (entries : List Action) : Type 0 where
   pub stands : CacheStandsFor now.added entries
   pub counted : count ≡ length entries
   pub apart : (entry : Action) → Contains entries entry → get opening.cache (action_id entry) ≡ None
   pub distinct : IsDistinct bytes_eq (map action_id entries)
   pub from : (entry : Action) → Contains entries entry → IsDoneFor now (action_id entry)
 
-done_stays : (old new : State) → Settles old.standings new.standings → (id : List ℕ) → IsDoneFor old id → IsDoneFor new id
+done_stays : (old new : BoardState) → Settles old.standings new.standings → (id : List ℕ) → IsDoneFor old id → IsDoneFor new id
 done_stays old new settled id d =
     let same = settled d.job (ap is_open d.done) in
     record { job = d.job; action = d.action; good = d.good; done = same.0 ∙ d.done; its = same.1 ∙ d.its; id_is = d.id_is }
 
-stays : (opening : Opening) (old new : State) (count : ℕ) (entries : List Action) → Settles old.standings new.standings → new.added ≡ old.added → AreEntered opening old count entries → AreEntered opening new count entries
+stays : (opening : Opening) (old new : BoardState) (count : ℕ) (entries : List Action) → Settles old.standings new.standings → new.added ≡ old.added → AreEntered opening old count entries → AreEntered opening new count entries
 stays opening old new count entries settled same h = record {
   stands = subst (λ (m : Entries). CacheStandsFor m entries) (sym same) h.stands;
   counted = h.counted;
@@ -66,7 +66,7 @@ none_put m entries stands id none entry c e = subst (IsHeld entries id) none (ca
 put_cases : (P : Action → Type 0) (entries : List Action) (e : Action) → P e → ((x : Action) → Contains entries x → P x) → (x : Action) → Contains (entries ++ e ∷ []) x → P x
 put_cases P entries e here old x c = elim (Contains-push_cases entries e x c) [ inl l ↦ old x l | inr s ↦ subst P s here ]
 
-finish_enters : (opening : Opening) (old : State) (hand j : ℕ) (a e : Action) (new : State) (count : ℕ) (entries : List Action) → KeepsIn opening old → Finishes opening old hand j a e new → AreEntered opening old count entries → AreEntered opening new (suc count) (entries ++ e ∷ [])
+finish_enters : (opening : Opening) (old : BoardState) (hand j : ℕ) (a e : Action) (new : BoardState) (count : ℕ) (entries : List Action) → KeepsIn opening old → Finishes opening old hand j a e new → AreEntered opening old count entries → AreEntered opening new (suc count) (entries ++ e ∷ [])
 finish_enters opening old hand j a e new count entries keeps fin h =
     let none : held opening old (action_id e) ≡ None = ap (held opening old) fin.fits ∙ running_unheld opening old hand j a keeps fin.run in
     let cache_none : get opening.cache (action_id e) ≡ None = first_none (get opening.cache (action_id e)) (get old.added (action_id e)) none in
@@ -107,21 +107,21 @@ finishes_counted n (Finish hand j ∷ events) = omega (arith, finishes_counted (
 finishes_counted n (Back hand j ∷ events) = omega (arith, finishes_counted n events, sum_by-cons (λ x. cond (is_finish x) 1 0) (Back hand j) events)
 finishes_counted n (Idle hand ∷ events) = omega (arith, finishes_counted n events, sum_by-cons (λ x. cond (is_finish x) 1 0) (Idle hand) events)
 
-same_added : (opening : Opening) (old new : State) (n : ℕ) (entries : List Action) (event : Event) → BoardStep opening old event new → KeepsIn opening old → new.added ≡ old.added → AreEntered opening old n entries → AreEntered opening new n entries
+same_added : (opening : Opening) (old new : BoardState) (n : ℕ) (entries : List Action) (event : Event) → BoardStep opening old event new → KeepsIn opening old → new.added ≡ old.added → AreEntered opening old n entries → AreEntered opening new n entries
 same_added opening old new n entries event s keeps same h = stays opening old new n entries (step_settled opening old event new keeps s) same h
 
-replays_enter : (opening : Opening) (events : List Event) (old new : State) (n : ℕ) (entries : List Action) → Replays opening old events new → KeepsIn opening old → AreEntered opening old n entries → (all : List Action) × AreEntered opening new (with_finishes n events) all
-replays_enter opening [] old new n entries r keeps h = (entries, subst (λ (s : State). AreEntered opening s n entries) (sym r) h)
+replays_enter : (opening : Opening) (events : List Event) (old new : BoardState) (n : ℕ) (entries : List Action) → Replays opening old events new → KeepsIn opening old → AreEntered opening old n entries → (all : List Action) × AreEntered opening new (with_finishes n events) all
+replays_enter opening [] old new n entries r keeps h = (entries, subst (λ (s : BoardState). AreEntered opening s n entries) (sym r) h)
 replays_enter opening (Take hand j ∷ events) old new n entries (mid, s, r) keeps h =
-    replays_enter opening events mid new n entries r (step_keeps opening old (Take hand j) mid s keeps) (same_added opening old mid n entries (Take hand j) s keeps (ap (λ (s : State). s.added) s.2) h)
+    replays_enter opening events mid new n entries r (step_keeps opening old (Take hand j) mid s keeps) (same_added opening old mid n entries (Take hand j) s keeps (ap (λ (s : BoardState). s.added) s.2) h)
 replays_enter opening (Finish hand j ∷ events) old new n entries (mid, s, r) keeps h =
     replays_enter opening events mid new (suc n) (entries ++ s.1 ∷ []) r (step_keeps opening old (Finish hand j) mid s keeps) (finish_enters opening old hand j s.0 s.1 mid n entries keeps s.2 h)
 replays_enter opening (Back hand j ∷ events) old new n entries (mid, s, r) keeps h =
-    replays_enter opening events mid new n entries r (step_keeps opening old (Back hand j) mid s keeps) (same_added opening old mid n entries (Back hand j) s keeps (ap (λ (s : State). s.added) s.2) h)
+    replays_enter opening events mid new n entries r (step_keeps opening old (Back hand j) mid s keeps) (same_added opening old mid n entries (Back hand j) s keeps (ap (λ (s : BoardState). s.added) s.2) h)
 replays_enter opening (Idle hand ∷ events) old new n entries (mid, s, r) keeps h =
-    replays_enter opening events mid new n entries r (step_keeps opening old (Idle hand) mid s keeps) (same_added opening old mid n entries (Idle hand) s keeps (ap (λ (s : State). s.added) s.1) h)
+    replays_enter opening events mid new n entries r (step_keeps opening old (Idle hand) mid s keeps) (same_added opening old mid n entries (Idle hand) s keeps (ap (λ (s : BoardState). s.added) s.1) h)
 
-first_entered : (opening : Opening) (first : State) → IsFirst opening first → AreEntered opening first 0 []
+first_entered : (opening : Opening) (first : BoardState) → IsFirst opening first → AreEntered opening first 0 []
 first_entered opening first begins = record {
   stands = empty_stands first.added begins.added;
   counted = refl;
@@ -130,7 +130,7 @@ first_entered opening first begins = record {
   from = λ x c. absurd (none_in_empty x c);
 }
 
-pub history_entered : (opening : Opening) (events : List Event) (now : State) → IsHistory opening events now → (entries : List Action) × AreEntered opening now (count_by is_finish events) entries
+pub history_entered : (opening : Opening) (events : List Event) (now : BoardState) → IsHistory opening events now → (entries : List Action) × AreEntered opening now (count_by is_finish events) entries
 history_entered opening events now h =
     let r = replays_enter opening events h.first now 0 [] h.replays (first_keeps opening h.first h.begins) (first_entered opening h.first h.begins) in
     (r.0, subst (λ n. AreEntered opening now n r.0) (finishes_counted 0 events ∙ omega arith) r.1)

@@ -11,10 +11,10 @@ use Rattle.go_export.specs.Writable.{IsWritten}
 use Rattle.ws_action.specs.Actions.{Action, action_id, MakeAction, IsSized}
 use Rattle.ws_cache.specs.Compiles.{Compiled, Compiles, Good, Faulty}
 use Rattle.ws_cache.proofs.Outcomes.{one_outcome}
-use Rattle.ws_board.specs.declared.work.Status.{Status}
-use Rattle.ws_board.specs.declared.work.Status.TheVariants.{Waiting, Blocked}
-use Rattle.ws_board.specs.Work.{Work, Job, Standings, acted}
-use Rattle.ws_board.specs.Machine.{Held, action_at, any_open, HasSummary, MayForm, IsFormed, IsVerdict, Wait, Stop, Act, IsPlaced, Stands}
+use Rattle.ws_board.specs.declared.work.JobStatus.{JobStatus}
+use Rattle.ws_board.specs.declared.work.JobStatus.TheVariants.{Waiting, Blocked}
+use Rattle.ws_board.specs.Work.{Work, Job, JobStates, acted}
+use Rattle.ws_board.specs.Machine.{Holdings, action_at, any_open, JobHasSummary, MayForm, IsFormed, IsReadiness, Wait, Stop, Act, IsPlaced, HasStatus}
 
 zip_push : (P : ℕ → Summary → Type 0) (ks : List ℕ) (ss : List Summary) (k : ℕ) (s : Summary) → AllZip P ks ss → P k s → AllZip P (ks ++ k ∷ []) (ss ++ s ∷ [])
 zip_push P [] [] k s z p = (p, tt)
@@ -33,22 +33,22 @@ written_more {Z} old new s t same pushed all here =
     let mapped : map arc_value new ≡ map arc_value old ++ arc_value s ∷ [] = ap (λ (l : List (Arc Summary Z)). map arc_value l) pushed ∙ map-append arc_value old (t ∷ []) ∙ ap (λ x. map arc_value old ++ x ∷ []) same in
     subst (All IsWritten) (sym mapped) (All-append IsWritten (map arc_value old) (arc_value s ∷ []) all (All-cons IsWritten (arc_value s) [] here (All-nil IsWritten)))
 
-module _ (h : Held) (now : Standings) where
+module _ (h : Holdings) (now : JobStates) where
   abbrev pub Are : List ℕ → List Summary → Type 0
-  Are = AllZip (HasSummary h now)
+  Are = AllZip (JobHasSummary h now)
 
   pub gathered_more : {Z : Type 0} (ks : List ℕ) (i k : ℕ) (old new : List (Arc Summary Z)) (s t : Arc Summary Z) → i < length ks → k ≡ get_or ks i 0 → arc_value t ≡ arc_value s → new ≡ old ++ t ∷ []
-      → Are (take i ks) (map arc_value old) → HasSummary h now k (arc_value s) → Are (take (i + 1) ks) (map arc_value new)
+      → Are (take i ks) (map arc_value old) → JobHasSummary h now k (arc_value s) → Are (take (i + 1) ks) (map arc_value new)
   gathered_more {Z} ks i k old new s t lt is same pushed all here =
       let taken : take (i + 1) ks ≡ take i ks ++ k ∷ [] = take_more ks i 0 lt ∙ ap (λ x. take i ks ++ x ∷ []) (sym is) in
       let mapped : map arc_value new ≡ map arc_value old ++ arc_value s ∷ [] = ap (λ (l : List (Arc Summary Z)). map arc_value l) pushed ∙ map-append arc_value old (t ∷ []) ∙ ap (λ x. map arc_value old ++ x ∷ []) same in
-      subst (λ js. Are js (map arc_value new)) (sym taken) (subst (Are (take i ks ++ k ∷ [])) (sym mapped) (zip_push (HasSummary h now) (take i ks) (map arc_value old) k (arc_value s) all here))
+      subst (λ js. Are js (map arc_value new)) (sym taken) (subst (Are (take i ks ++ k ∷ [])) (sym mapped) (zip_push (JobHasSummary h now) (take i ks) (map arc_value old) k (arc_value s) all here))
 
   pub gathered_all : (ks : List ℕ) (i : ℕ) (ss : List Summary) → length ks ≤ i → Are (take i ks) ss → Are ks ss
   gathered_all ks i ss le all = subst (λ js. Are js ss) (take_all i ks le) all
 
-  pub gathered_none : (ks : List ℕ) (i k : ℕ) → i < length ks → k ≡ get_or ks i 0 → ((s : Summary) → ¬ (HasSummary h now k s)) → (ss : List Summary) → ¬ (Are ks ss)
-  gathered_none ks i k lt is none ss z = zip_nowhere (HasSummary h now) ks i k lt is none ss z
+  pub gathered_none : (ks : List ℕ) (i k : ℕ) → i < length ks → k ≡ get_or ks i 0 → ((s : Summary) → ¬ (JobHasSummary h now k s)) → (ss : List Summary) → ¬ (Are ks ss)
+  gathered_none ks i k lt is none ss z = zip_nowhere (JobHasSummary h now) ks i k lt is none ss z
 
   -- ---- one job has one summary
 
@@ -56,7 +56,7 @@ module _ (h : Held) (now : Standings) where
   good_of other (Good s o) = s
   good_of other (Faulty f) = other
 
-  one_has : (k : ℕ) (s t : Summary) → HasSummary h now k s → HasSummary h now k t → s ≡ t
+  one_has : (k : ℕ) (s t : Summary) → JobHasSummary h now k s → JobHasSummary h now k t → s ≡ t
   unfolding good_of
   one_has k s t g p =
       let actions : g.action ≡ p.action = (let e : Some g.action ≡ Some p.action = sym g.its ∙ p.its in cc) in
@@ -73,7 +73,7 @@ module _ (h : Held) (now : Standings) where
   one_gathered (k ∷ ks) (s ∷ ss) (t ∷ ts) g p = ap (λ (x : Summary). x ∷ ss) (one_has k s t g.0 p.0) ∙ ap (λ (xs : List Summary). t ∷ xs) (one_gathered ks ss ts g.1 p.1)
 
   -- an entry that isn't good has no summary
-  pub faulty_none : (k : ℕ) (a entry : Action) (r : Compiled) → action_at now.actions k ≡ Some a → h (action_id a) ≡ Some entry → Compiles entry r → ((s : Summary) (o : Object) → r ≡ Good s o → ⊥) → (s : Summary) → ¬ (HasSummary h now k s)
+  pub faulty_none : (k : ℕ) (a entry : Action) (r : Compiled) → action_at now.actions k ≡ Some a → h (action_id a) ≡ Some entry → Compiles entry r → ((s : Summary) (o : Object) → r ≡ Good s o → ⊥) → (s : Summary) → ¬ (JobHasSummary h now k s)
   faulty_none k a entry r its is compiles not s g =
       let actions : g.action ≡ a = (let e : Some g.action ≡ Some a = sym g.its ∙ its in cc) in
       let entries : g.entry ≡ entry = (let e : Some g.entry ≡ Some entry = sym g.is_held ∙ ap (λ z. h (action_id z)) actions ∙ is in cc) in
@@ -93,14 +93,14 @@ module _ (h : Held) (now : Standings) where
   -- ---- how a job stands by them
 
   module _ (job : Job) (work : Work) (its : Some work ≡ job.work) where
-    pub stands_open : (ks : List ℕ) → ks ≡ job.imports → true ≡ any_open now ks → Stands h now (Some job) Waiting None
-    stands_open ks is e = (Wait, subst (λ o. IsVerdict h now o job.imports Wait) its (ap (any_open now) (sym is) ∙ sym e), (refl, refl))
+    pub stands_open : (ks : List ℕ) → ks ≡ job.imports → true ≡ any_open now ks → HasStatus h now (Some job) Waiting None
+    stands_open ks is e = (Wait, subst (λ o. IsReadiness h now o job.imports Wait) its (ap (any_open now) (sym is) ∙ sym e), (refl, refl))
 
-    pub stands_stop : (ks ls : List ℕ) → ks ≡ job.imports → false ≡ any_open now ks → ls ≡ job.imports → ((a : Action) → ¬ (MayForm h now work ls a)) → Stands h now (Some job) Blocked None
+    pub stands_stop : (ks ls : List ℕ) → ks ≡ job.imports → false ≡ any_open now ks → ls ≡ job.imports → ((a : Action) → ¬ (MayForm h now work ls a)) → HasStatus h now (Some job) Blocked None
     stands_stop ks ls is e again none =
-        let verdict : IsVerdict h now (Some work) job.imports Stop = (ap (any_open now) (sym is) ∙ sym e, subst (λ l. (a : Action) → ¬ (MayForm h now work l a)) again none) in
-        (Stop, subst (λ o. IsVerdict h now o job.imports Stop) its verdict, (refl, refl))
+        let verdict : IsReadiness h now (Some work) job.imports Stop = (ap (any_open now) (sym is) ∙ sym e, subst (λ l. (a : Action) → ¬ (MayForm h now work l a)) again none) in
+        (Stop, subst (λ o. IsReadiness h now o job.imports Stop) its verdict, (refl, refl))
 
-    pub stands_act : (ls : List ℕ) (a : Action) (id : List ℕ) (status : Status) → ls ≡ job.imports → IsFormed h now work ls a → id ≡ action_id a → IsPlaced (h id) status → Stands h now (Some job) status (Some a)
+    pub stands_act : (ls : List ℕ) (a : Action) (id : List ℕ) (status : JobStatus) → ls ≡ job.imports → IsFormed h now work ls a → id ≡ action_id a → IsPlaced (h id) status → HasStatus h now (Some job) status (Some a)
     stands_act ls a id status is formed same placed =
-        (Act a, subst (λ o. IsVerdict h now o job.imports (Act a)) its (subst (λ l. IsFormed h now work l a) is formed), (subst (λ i. IsPlaced (h i) status) same placed, refl))
+        (Act a, subst (λ o. IsReadiness h now o job.imports (Act a)) its (subst (λ l. IsFormed h now work l a) is formed), (subst (λ i. IsPlaced (h i) status) same placed, refl))

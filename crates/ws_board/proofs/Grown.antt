@@ -11,8 +11,8 @@ use Rattle.ws_action.specs.Actions.{Action}
 use Rattle.ws_cache.specs.Held.{id_cmp}
 use Rattle.ws_cache.specs.Joined.{lesser}
 use Rattle.ws_cache.specs.Laws.{id_cmp_total, id_cmp-IsAntisymmetric}
-use Rattle.ws_board.specs.Work.{Entries, Opening, State}
-use Rattle.ws_board.specs.Machine.{Held, held}
+use Rattle.ws_board.specs.Work.{Entries, Opening, BoardState}
+use Rattle.ws_board.specs.Machine.{Holdings, held}
 
 both_none : (a b : Option Action) → option_or a b ≡ None → (a ≡ None) × (b ≡ None)
 both_none None b h = (refl, h)
@@ -45,12 +45,12 @@ taken_here m id a none =
     get_taken m id a id ∙ ap (λ b. joined_option lesser (get m id) (cond b (Some a) None)) tie ∙ ap (λ o. joined_option lesser o (Some a)) none
 
 -- a new entry at an id at which nothing was held
-pub record Grows (old new : Held) (id : List ℕ) (entry : Action) : Type 0 where
+pub record Grows (old new : Holdings) (id : List ℕ) (entry : Action) : Type 0 where
   pub before : old id ≡ None
   pub here : new id ≡ Some entry
   pub others : (q : List ℕ) → (q ≡ id → ⊥) → new q ≡ old q
 
-pub grows : (opening : Opening) (old new : State) (id : List ℕ) (entry : Action) → new.added ≡ taken lesser old.added id entry → held opening old id ≡ None → Grows (held opening old) (held opening new) id entry
+pub grows : (opening : Opening) (old new : BoardState) (id : List ℕ) (entry : Action) → new.added ≡ taken lesser old.added id entry → held opening old id ≡ None → Grows (held opening old) (held opening new) id entry
 grows opening old new id entry joins none =
     let parts = both_none (get opening.cache id) (get old.added id) none in
     record {

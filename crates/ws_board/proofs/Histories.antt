@@ -9,24 +9,24 @@ use Rattle.std.proofs.lemmas.Slice.Eq.{bytes_eq-Decides}
 use Rattle.ws_map.specs.Kept.{taken}
 use Rattle.ws_action.specs.Actions.{Action, action_id}
 use Rattle.ws_cache.specs.Joined.{lesser}
-use Rattle.ws_board.specs.declared.work.Status.TheVariants.{Ready, Blocked}
+use Rattle.ws_board.specs.declared.work.JobStatus.TheVariants.{Ready, Blocked}
 use Rattle.ws_board.specs.declared.work.Event.{Event}
-use Rattle.ws_board.specs.Work.{Job, Entries, Standings, Opening, State}
-use Rattle.ws_board.specs.Machine.{status_at, action_at, held, IsGoodness, Carried, IsMarked, IsRunBy, Finishes, BoardStep, Replays, IsFirst, IsHistory, unopened}
-use Rattle.ws_board.specs.Carrying.{held_with}
+use Rattle.ws_board.specs.Work.{Job, Entries, JobStates, Opening, BoardState}
+use Rattle.ws_board.specs.Machine.{status_at, action_at, held, IsGoodness, Propagated, IsMarked, IsRunBy, Finishes, BoardStep, Replays, IsFirst, IsHistory, unopened}
+use Rattle.ws_board.specs.Propagation.{held_with}
 use Rattle.ws_board.proofs.Grown.{taken_here, taken_other}
 use Rattle.ws_board.proofs.Sounds.{IsSound, KeepsIn, history_keeps, running_unheld}
 
-replays_more : (opening : Opening) (events : List Event) (first old : State) (event : Event) (new : State) → Replays opening first events old → BoardStep opening old event new → Replays opening first (events ++ event ∷ []) new
+replays_more : (opening : Opening) (events : List Event) (first old : BoardState) (event : Event) (new : BoardState) → Replays opening first events old → BoardStep opening old event new → Replays opening first (events ++ event ∷ []) new
 replays_more opening [] first old event new r step = (new, subst (λ s. BoardStep opening s event new) r step, refl)
 replays_more opening (e ∷ events) first old event new (mid, s, rest) step = (mid, s, replays_more opening events mid old event new rest step)
 
-pub history_more : (opening : Opening) (events all : List Event) (old : State) (event : Event) (new : State) → IsHistory opening events old → BoardStep opening old event new → all ≡ events ++ event ∷ [] → IsHistory opening all new
+pub history_more : (opening : Opening) (events all : List Event) (old : BoardState) (event : Event) (new : BoardState) → IsHistory opening events old → BoardStep opening old event new → all ≡ events ++ event ∷ [] → IsHistory opening all new
 history_more opening events all old event new h step is =
     subst (λ l. IsHistory opening l new) (sym is) (record { first = h.first; begins = h.begins; replays = replays_more opening events h.first old event new h.replays step })
 
 -- in a legal history a job that is ready has an action
-pub ready_has : (opening : Opening) (events : List Event) (now : State) → IsHistory opening events now → (job : ℕ) → status_at now.standings.statuses job ≡ Ready → (action : Action) × (action_at now.standings.actions job ≡ Some action)
+pub ready_has : (opening : Opening) (events : List Event) (now : BoardState) → IsHistory opening events now → (job : ℕ) → status_at now.standings.statuses job ≡ Ready → (action : Action) × (action_at now.standings.actions job ≡ Some action)
 ready_has opening events now h job ready =
     has (slice_get opening.jobs job) (action_at now.standings.actions job)
     (subst (λ s. IsSound (held opening now) now.standings (slice_get opening.jobs job) s (action_at now.standings.actions job)) ready ((history_keeps opening events now h).sound job))
@@ -63,7 +63,7 @@ held_newest cache added entry id none nor false e =
     ∙ ap (option_or (get cache id)) (sym (taken_other added (action_id entry) entry id other))
 
 -- what is held with the newest entry is what is held once it was added
-pub held_grown : (opening : Opening) (old : State) (entry : Action) → held opening old (action_id entry) ≡ None
+pub held_grown : (opening : Opening) (old : BoardState) (entry : Action) → held opening old (action_id entry) ≡ None
     → held_with opening.cache old.added (Some entry) ≡ held opening (record { standings = old.standings; added = taken lesser old.added (action_id entry) entry })
 held_grown opening old entry none =
     let parts = or_none (get opening.cache (action_id entry)) (get old.added (action_id entry)) none in
@@ -74,8 +74,8 @@ pub held_still : (cache added : Entries) → held_with cache added None ≡ (λ 
 held_still cache added = λ i id. or_assoc (get cache id) (get added id) None refl i
 
 -- what a finish does is a step
-pub finish_step : (opening : Opening) (old : State) (hand job : ℕ) (action entry : Action) (good : Bool) (marked new : Standings) → KeepsIn opening old → IsRunBy old.standings hand job action → action_id entry ≡ action_id action → IsGoodness entry good
-    → IsMarked (action_id action) good old.standings marked → Carried opening.jobs (held_with opening.cache old.added (Some entry)) marked new
+pub finish_step : (opening : Opening) (old : BoardState) (hand job : ℕ) (action entry : Action) (good : Bool) (marked new : JobStates) → KeepsIn opening old → IsRunBy old.standings hand job action → action_id entry ≡ action_id action → IsGoodness entry good
+    → IsMarked (action_id action) good old.standings marked → Propagated opening.jobs (held_with opening.cache old.added (Some entry)) marked new
     → Finishes opening old hand job action entry (record { standings = new; added = taken lesser old.added (action_id entry) entry })
 finish_step opening old hand job action entry good marked new keeps run fits goodness marks carried =
     let none : held opening old (action_id entry) ≡ None = ap (held opening old) fits ∙ running_unheld opening old hand job action keeps run in
@@ -87,14 +87,14 @@ finish_step opening old hand job action entry good marked new keeps run fits goo
       goodness = goodness;
       joins = refl;
       marks = marks;
-      carried = subst (λ h. Carried opening.jobs h marked new) (held_grown opening old entry none) carried;
+      carried = subst (λ h. Propagated opening.jobs h marked new) (held_grown opening old entry none) carried;
     }
 
 -- ---- the opening
 
-pub opened_first : (jobs : List Job) (cache added : Entries) (now : Standings) → added ≡ empty → Carried jobs (held_with cache added None) (unopened jobs) now
+pub opened_first : (jobs : List Job) (cache added : Entries) (now : JobStates) → added ≡ empty → Propagated jobs (held_with cache added None) (unopened jobs) now
     → IsFirst (record { jobs = jobs; cache = cache }) (record { standings = now; added = added })
-opened_first jobs cache added now none carried = record { added = none; carried = subst (λ h. Carried jobs h (unopened jobs) now) (held_still cache added) carried }
+opened_first jobs cache added now none carried = record { added = none; carried = subst (λ h. Propagated jobs h (unopened jobs) now) (held_still cache added) carried }
 
-pub opened_history : (opening : Opening) (first : State) → IsFirst opening first → IsHistory opening [] first
+pub opened_history : (opening : Opening) (first : BoardState) → IsFirst opening first → IsHistory opening [] first
 opened_history opening first begins = record { first = first; begins = begins; replays = refl }

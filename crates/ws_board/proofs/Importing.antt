@@ -8,12 +8,12 @@ use Rattle.std.proofs.lemmas.List.{get_or_at, get_or_append_left, length_push, l
 use Rattle.std.proofs.lemmas.List.Elements.{Contains-append_left, Contains-push, Contains-push_cases}
 use Rattle.std.proofs.lemmas.List.Sums.{sum_by-set, sum_by-cons, sum_by_more}
 use Rattle.std.proofs.lemmas.Option.{slice_get_past, slice_get-get_or}
-use Rattle.ws_board.specs.declared.work.Status.TheVariants.{Waiting}
+use Rattle.ws_board.specs.declared.work.JobStatus.TheVariants.{Waiting}
 use Rattle.ws_board.specs.declared.table.Row.{Row}
 use Rattle.ws_board.specs.Work.{Job}
 use Rattle.ws_board.specs.Machine.{is_waiting}
-use Rattle.ws_board.specs.Ends.{imports_in, imports_at}
-use Rattle.ws_board.specs.Rows.{due, owed, import_count, first_row, AreFirst, Adds, AreImporters, AreKnownBy, AreCarriedBy}
+use Rattle.ws_board.specs.Ends.{job_imports, job_imports_at}
+use Rattle.ws_board.specs.Rows.{due, owed, import_count, first_row, AreFirstRows, Adds, AreImporters, AreKnownBy, ArePropagatedBy}
 use Rattle.ws_board.specs.Table.{blank, row_at}
 use Rattle.ws_board.proofs.Standing.{row_past, open_inside, waiting_open}
 
@@ -95,8 +95,8 @@ module _ (mid new : List (List ℕ)) (k job : ℕ) (is : new ≡ set mid k (get_
 no_job : Job
 no_job = record { work = None; imports = [] }
 
-imports_within : (jobs : List Job) (k : ℕ) → k < length jobs → imports_at jobs k ≡ (get_or jobs k no_job).imports
-imports_within jobs k lt = ap imports_in (slice_get-get_or jobs k no_job lt)
+imports_within : (jobs : List Job) (k : ℕ) → k < length jobs → job_imports_at jobs k ≡ (get_or jobs k no_job).imports
+imports_within jobs k lt = ap job_imports (slice_get-get_or jobs k no_job lt)
 
 pub importers_none : (jobs : List Job) (lists : List (List ℕ)) → lists ≡ replicate (length jobs) [] → AreImporters jobs 0 lists
 importers_none jobs lists is = record {
@@ -118,17 +118,17 @@ importers_none jobs lists is = record {
     none_count zero = refl
     none_count (suc n) = omega (arith, sum_by-cons (λ (l : List ℕ). length l) [] (replicate n []), none_count n)
 
-pub importers_more : (jobs : List Job) (n : ℕ) (mid new : List (List ℕ)) → n < length jobs → AreImporters jobs n mid → Adds mid new (imports_at jobs n) n → AreImporters jobs (n + 1) new
+pub importers_more : (jobs : List Job) (n : ℕ) (mid new : List (List ℕ)) → n < length jobs → AreImporters jobs n mid → Adds mid new (job_imports_at jobs n) n → AreImporters jobs (n + 1) new
 importers_more jobs n mid new lt are adds = record {
   same_length = adds.lists ∙ are.same_length;
   named = λ j k below c inside. elim (cases_eq j n) [
-    | inl e ↦ subst (Contains (get_or new k [])) (sym e) (adds.named k (subst (λ i. Contains (imports_at jobs i) k) e c) (omega (arith, inside, are.same_length)))
+    | inl e ↦ subst (Contains (get_or new k [])) (sym e) (adds.named k (subst (λ i. Contains (job_imports_at jobs i) k) e c) (omega (arith, inside, are.same_length)))
     | inr ne ↦ adds.keeps k j (are.named j k (omega (arith, below, ne)) c inside)
   ];
   inside = λ j k c. by_only j k (adds.only k j c);
   count = (
       let s = sum_by_more (λ (job : Job). length job.imports) jobs n no_job lt in
-      let e : length (imports_at jobs n) ≡ length (get_or jobs n no_job).imports = ap length (imports_within jobs n lt) in
+      let e : length (job_imports_at jobs n) ≡ length (get_or jobs n no_job).imports = ap length (imports_within jobs n lt) in
       omega (arith, are.count, adds.count, s, e)
       );
 }
@@ -137,17 +137,17 @@ importers_more jobs n mid new lt are adds = record {
     by_only j k (inl c) = omega (arith, are.inside j k c)
     by_only j k (inr e) = omega (arith, e)
 
-pub first_none : (jobs : List Job) (lists : List (List ℕ)) (rows : List Row) → rows ≡ [] → AreFirst jobs lists 0 rows
+pub first_none : (jobs : List Job) (lists : List (List ℕ)) (rows : List Row) → rows ≡ [] → AreFirstRows jobs lists 0 rows
 first_none jobs lists rows is = record { count = ap length is; each = λ k lt. absurd (omega (arith, lt)) }
 
 abbrev waiting_with : ℕ → ℕ → Row
 waiting_with imports importers = record { status = Waiting; action = None; left = imports; was_back = false; imports = imports; importers = importers }
 
 -- the row is that of a job of whose imports nothing is known
-pub first_is : (jobs : List Job) (lists : List (List ℕ)) (k : ℕ) (row : Row) (imports importers : ℕ) → row ≡ waiting_with imports importers → imports ≡ length (imports_at jobs k) → importers ≡ length (slice_index_or lists k []) → row ≡ first_row jobs lists k
-first_is jobs lists k row imports importers is own told = is ∙ ap (λ n. waiting_with n importers) own ∙ ap (waiting_with (length (imports_at jobs k))) told
+pub first_is : (jobs : List Job) (lists : List (List ℕ)) (k : ℕ) (row : Row) (imports importers : ℕ) → row ≡ waiting_with imports importers → imports ≡ length (job_imports_at jobs k) → importers ≡ length (slice_index_or lists k []) → row ≡ first_row jobs lists k
+first_is jobs lists k row imports importers is own told = is ∙ ap (λ n. waiting_with n importers) own ∙ ap (waiting_with (length (job_imports_at jobs k))) told
 
-pub first_more : (jobs : List Job) (lists : List (List ℕ)) (n : ℕ) (old new : List Row) (row : Row) → new ≡ old ++ row ∷ [] → row ≡ first_row jobs lists n → AreFirst jobs lists n old → AreFirst jobs lists (n + 1) new
+pub first_more : (jobs : List Job) (lists : List (List ℕ)) (n : ℕ) (old new : List Row) (row : Row) → new ≡ old ++ row ∷ [] → row ≡ first_row jobs lists n → AreFirstRows jobs lists n old → AreFirstRows jobs lists (n + 1) new
 first_more jobs lists n old new row is same first = record {
   count = ap length is ∙ length_push old row ∙ ap (λ m. m + 1) first.count;
   each = λ k lt. elim (cases_eq k n) [
@@ -156,9 +156,9 @@ first_more jobs lists n old new row is same first = record {
   ];
 }
 
-module _ (J : List Job) (I : List (List ℕ)) (R : List Row) (first : AreFirst J I (length J) R) where
-  none_past : (k : ℕ) → length J ≤ k → imports_at J k ≡ []
-  none_past k le = ap imports_in (slice_get_past J k le)
+module _ (J : List Job) (I : List (List ℕ)) (R : List Row) (first : AreFirstRows J I (length J) R) where
+  none_past : (k : ℕ) → length J ≤ k → job_imports_at J k ≡ []
+  none_past k le = ap job_imports (slice_get_past J k le)
 
   list_past : (lists : List (List ℕ)) (k : ℕ) → length lists ≤ k → get_or lists k [] ≡ []
   list_past [] k le = refl
@@ -188,16 +188,16 @@ module _ (J : List Job) (I : List (List ℕ)) (R : List Row) (first : AreFirst J
   waits_inside : (k : ℕ) → is_waiting (row_at R k).status ≡ true → k < length J
   waits_inside k w = omega (arith, open_inside R k (waiting_open (row_at R k).status w), first.count)
 
-  pub first_good : AreKnownBy J I R → AreCarriedBy J I R
+  pub first_good : AreKnownBy J I R → ArePropagatedBy J I R
   first_good known = record {
     known = known;
-    past = λ k w i le lt. (let e : (row_at R k).left ≡ length (imports_at J k) = ap (λ (r : Row). r.left) (first.each k (waits_inside k w)) in absurd (omega (arith, e, le, lt)));
-    within = λ k w. (let e : (row_at R k).left ≡ length (imports_at J k) = ap (λ (r : Row). r.left) (first.each k (waits_inside k w)) in omega (arith, e));
+    past = λ k w i le lt. (let e : (row_at R k).left ≡ length (job_imports_at J k) = ap (λ (r : Row). r.left) (first.each k (waits_inside k w)) in absurd (omega (arith, e, le, lt)));
+    within = λ k w. (let e : (row_at R k).left ≡ length (job_imports_at J k) = ap (λ (r : Row). r.left) (first.each k (waits_inside k w)) in omega (arith, e));
     bare = λ k w. ap (λ (r : Row). r.action) (first.each k (waits_inside k (ap is_waiting w)));
   }
 
 -- what the first rows owe
-owes : (J : List Job) (I : List (List ℕ)) (R : List Row) → length R ≡ length J → length I ≡ length J → ((k : ℕ) → k < length J → due (row_at R k) ≡ 3 + 4 * length (imports_at J k) + 4 * length (slice_index_or I k []))
+owes : (J : List Job) (I : List (List ℕ)) (R : List Row) → length R ≡ length J → length I ≡ length J → ((k : ℕ) → k < length J → due (row_at R k) ≡ 3 + 4 * length (job_imports_at J k) + 4 * length (slice_index_or I k []))
     → owed R ≡ 3 * length J + 4 * import_count J + 4 * sum_by (λ list. length list) I
 owes [] [] [] r i each = refl
 owes [] [] (x ∷ xs) r i each = absurd (omega (arith, r))
@@ -209,5 +209,5 @@ owes (j ∷ js) (l ∷ ls) (x ∷ xs) r i each =
     let rest = owes js ls xs (omega (arith, r)) (omega (arith, i)) (λ k lt. each (suc k) (omega (arith, lt))) in
     omega (arith, here, rest, sum_by-cons due x xs, sum_by-cons (λ (job : Job). length job.imports) j js, sum_by-cons (λ (list : List ℕ). length list) l ls)
 
-pub first_owes : (J : List Job) (I : List (List ℕ)) (R : List Row) → AreFirst J I (length J) R → length I ≡ length J → owed R ≡ 3 * length J + 4 * import_count J + 4 * sum_by (λ list. length list) I
+pub first_owes : (J : List Job) (I : List (List ℕ)) (R : List Row) → AreFirstRows J I (length J) R → length I ≡ length J → owed R ≡ 3 * length J + 4 * import_count J + 4 * sum_by (λ list. length list) I
 first_owes J I R first lists = owes J I R first.count lists (λ k lt. (let e : due (row_at R k) ≡ due (first_row J I k) = ap due (first.each k lt) in omega (arith, e)))

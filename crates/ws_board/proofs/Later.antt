@@ -3,10 +3,10 @@ use Rattle.std.proofs.Common.{◌≡◌, ℕ, Bool, true, false, ◌||◌, List,
 use Rattle.std.specs.List.{AllZip}
 use Rattle.go_export.specs.Summaries.{Summary}
 use Rattle.ws_action.specs.Actions.{Action, action_id}
-use Rattle.ws_board.specs.declared.work.Status.{Status}
-use Rattle.ws_board.specs.declared.work.Status.TheVariants.{Done}
-use Rattle.ws_board.specs.Work.{Work, Job, Standings}
-use Rattle.ws_board.specs.Machine.{Held, is_open, is_waiting, status_at, action_at, any_open, HasSummary, MayForm, IsFormed, Verdict, Wait, Stop, Act, IsVerdict, Follows, Stands}
+use Rattle.ws_board.specs.declared.work.JobStatus.{JobStatus}
+use Rattle.ws_board.specs.declared.work.JobStatus.TheVariants.{Done}
+use Rattle.ws_board.specs.Work.{Work, Job, JobStates}
+use Rattle.ws_board.specs.Machine.{Holdings, is_open, is_waiting, status_at, action_at, any_open, JobHasSummary, MayForm, IsFormed, Readiness, Wait, Stop, Act, IsReadiness, Follows, HasStatus}
 
 pub first_false : (a b : Bool) → (a || b) ≡ false → a ≡ false
 first_false false b h = refl
@@ -17,30 +17,30 @@ second_false false b h = h
 second_false true b h = absurd (cc)
 
 -- what is settled stays so, and so does what is held for it
-pub record Later (was is : Held) (old new : Standings) : Type 0 where
+pub record Later (was is : Holdings) (old new : JobStates) : Type 0 where
   pub settled : (k : ℕ) → is_open (status_at old.statuses k) ≡ false → (status_at new.statuses k ≡ status_at old.statuses k) × (action_at new.actions k ≡ action_at old.actions k)
   pub keeps : (k : ℕ) (good : Bool) (a : Action) → status_at old.statuses k ≡ Done good → action_at old.actions k ≡ Some a → is (action_id a) ≡ was (action_id a)
 
-module _ (was is : Held) (old new : Standings) (later : Later was is old new) where
-  summary_there : (k : ℕ) (s : Summary) → HasSummary was old k s → HasSummary is new k s
+module _ (was is : Holdings) (old new : JobStates) (later : Later was is old new) where
+  summary_there : (k : ℕ) (s : Summary) → JobHasSummary was old k s → JobHasSummary is new k s
   summary_there k s h =
       let same = later.settled k (ap is_open h.done) in
       record { done = same.0 ∙ h.done; action = h.action; its = same.1 ∙ h.its; entry = h.entry; is_held = later.keeps k true h.action h.done h.its ∙ h.is_held; object = h.object; compiled = h.compiled }
 
-  summary_back : (k : ℕ) (s : Summary) → is_open (status_at old.statuses k) ≡ false → HasSummary is new k s → HasSummary was old k s
+  summary_back : (k : ℕ) (s : Summary) → is_open (status_at old.statuses k) ≡ false → JobHasSummary is new k s → JobHasSummary was old k s
   summary_back k s shut h =
       let same = later.settled k shut in
       let done : status_at old.statuses k ≡ Done true = sym same.0 ∙ h.done in
       let its : action_at old.actions k ≡ Some h.action = sym same.1 ∙ h.its in
       record { done = done; action = h.action; its = its; entry = h.entry; is_held = sym (later.keeps k true h.action done its) ∙ h.is_held; object = h.object; compiled = h.compiled }
 
-  summaries_there : (ks : List ℕ) (ss : List Summary) → AllZip (HasSummary was old) ks ss → AllZip (HasSummary is new) ks ss
+  summaries_there : (ks : List ℕ) (ss : List Summary) → AllZip (JobHasSummary was old) ks ss → AllZip (JobHasSummary is new) ks ss
   summaries_there [] [] h = h
   summaries_there [] (s ∷ ss) h = absurd h
   summaries_there (k ∷ ks) [] h = absurd h
   summaries_there (k ∷ ks) (s ∷ ss) h = (summary_there k s h.0, summaries_there ks ss h.1)
 
-  summaries_back : (ks : List ℕ) (ss : List Summary) → any_open old ks ≡ false → AllZip (HasSummary is new) ks ss → AllZip (HasSummary was old) ks ss
+  summaries_back : (ks : List ℕ) (ss : List Summary) → any_open old ks ≡ false → AllZip (JobHasSummary is new) ks ss → AllZip (JobHasSummary was old) ks ss
   summaries_back [] [] o h = h
   summaries_back [] (s ∷ ss) o h = absurd h
   summaries_back (k ∷ ks) [] o h = absurd h
@@ -59,20 +59,20 @@ module _ (was is : Held) (old new : Standings) (later : Later was is old new) wh
   unformed_stays : (work : Work) (ks : List ℕ) → any_open old ks ≡ false → ((a : Action) → ¬ (MayForm was old work ks a)) → (a : Action) → ¬ (MayForm is new work ks a)
   unformed_stays work ks o none a m = none a (record { summaries = m.summaries; have = summaries_back ks m.summaries o m.have; make = m.make; is = m.is })
 
-  pub act_stays : (o : Option Work) (ks : List ℕ) (a : Action) → IsVerdict was old o ks (Act a) → IsVerdict is new o ks (Act a)
+  pub act_stays : (o : Option Work) (ks : List ℕ) (a : Action) → IsReadiness was old o ks (Act a) → IsReadiness is new o ks (Act a)
   act_stays None ks a v = v
   act_stays (Some work) ks a v = formed_stays work ks a v
 
-  pub stop_stays : (o : Option Work) (ks : List ℕ) → IsVerdict was old o ks Stop → IsVerdict is new o ks Stop
+  pub stop_stays : (o : Option Work) (ks : List ℕ) → IsReadiness was old o ks Stop → IsReadiness is new o ks Stop
   stop_stays None ks v = v
   stop_stays (Some work) ks v = (shut_stays ks v.0, unformed_stays work ks v.0 v.1)
 
 -- a job that stands otherwise than waiting still stands so, by what is held as before
-pub stands_stays : (h : Held) (old new : Standings) → Later h h old new → (o : Option Job) (s : Status) (x : Option Action) → is_waiting s ≡ false → Stands h old o s x → Stands h new o s x
+pub stands_stays : (h : Holdings) (old new : JobStates) → Later h h old new → (o : Option Job) (s : JobStatus) (x : Option Action) → is_waiting s ≡ false → HasStatus h old o s x → HasStatus h new o s x
 stands_stays h old new later None s x w st = st
 stands_stays h old new later (Some job) s x w st = by_verdict st.0 st.1 st.2
   where
-    by_verdict : (v : Verdict) → IsVerdict h old job.work job.imports v → Follows h v s x → Stands h new (Some job) s x
+    by_verdict : (v : Readiness) → IsReadiness h old job.work job.imports v → Follows h v s x → HasStatus h new (Some job) s x
     by_verdict Wait v f = let c : true ≡ false = sym (ap is_waiting f.0) ∙ w in absurd (cc)
     by_verdict Stop v f = (Stop, stop_stays h h old new later job.work job.imports v, f)
     by_verdict (Act a) v f = (Act a, act_stays h h old new later job.work job.imports a v, f)

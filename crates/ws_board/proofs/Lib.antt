@@ -1,40 +1,40 @@
-pub mod Activating
-pub mod Advanced
-pub mod Advancing
-pub mod Agreeing
-pub mod Alone
-pub mod Boarding
-pub mod Carry
-pub mod Closing
-pub mod Concluding
+mod Activating
+mod Advanced
+mod Advancing
+mod Agreeing
+mod Alone
+mod Boarding
+mod Carry
+mod Closing
+mod Concluding
 pub mod Counts
 pub mod Crossing
-pub mod Endings
-pub mod Finished
-pub mod Finishing
-pub mod Gathered
-pub mod Grown
-pub mod Histories
-pub mod Idle
-pub mod Ids
-pub mod Importing
-pub mod Indexing
+mod Endings
+mod Finished
+mod Finishing
+mod Gathered
+mod Grown
+mod Histories
+mod Idle
+mod Ids
+mod Importing
+mod Indexing
 pub mod Later
-pub mod Listing
-pub mod Marking
-pub mod Meeting
-pub mod Noting
-pub mod OneEnd
-pub mod Onward
+mod Listing
+mod Marking
+mod Meeting
+mod Noting
+mod OneEnd
+mod Onward
 pub mod Own
-pub mod Refused
-pub mod Runs
-pub mod Shown
-pub mod Sounds
-pub mod Standby
-pub mod Standing
-pub mod Stepping
-pub mod Taking
-pub mod Tells
-pub mod Trees
-pub mod Undoing
+mod Refused
+mod Runs
+mod Shown
+mod Sounds
+mod Standby
+mod Standing
+mod Stepping
+mod Taking
+mod Tells
+mod Trees
+mod Undoing

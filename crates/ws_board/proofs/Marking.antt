@@ -7,14 +7,14 @@ use Rattle.std.proofs.lemmas.Bool.{cases_eq}
 use Rattle.std.proofs.lemmas.List.{drop_more, ext_get_or}
 use Rattle.std.proofs.lemmas.List.Sums.{sum_by-cons, sum_by_push}
 use Rattle.ws_action.specs.Actions.{Action}
-use Rattle.ws_board.specs.declared.work.Status.{Status}
-use Rattle.ws_board.specs.declared.work.Status.TheVariants.{Waiting, Ready, Running, Blocked, Done}
+use Rattle.ws_board.specs.declared.work.JobStatus.{JobStatus}
+use Rattle.ws_board.specs.declared.work.JobStatus.TheVariants.{Waiting, Ready, Running, Blocked, Done}
 use Rattle.ws_board.specs.declared.table.Row.{Row}
 use Rattle.ws_board.specs.Work.{Job}
 use Rattle.ws_board.specs.Machine.{is_open, is_waiting, is_active, has_action_id, status_at, IsMarked, mark}
-use Rattle.ws_board.specs.Ends.{imports_at}
-use Rattle.ws_board.specs.Rows.{times, is_active_of, marked_row, due, due_of, owed, untold, telling, watched, Marks, Waits, IsHeldUp, AreKnownBy, AreCarriedBy}
-use Rattle.ws_board.specs.Table.{row_at, standings_of}
+use Rattle.ws_board.specs.Ends.{job_imports_at}
+use Rattle.ws_board.specs.Rows.{times, is_active_of, marked_row, due, due_of, owed, untold, importer_reads, watched, Marks, Waits, IsHeldUp, AreKnownBy, ArePropagatedBy}
+use Rattle.ws_board.specs.Table.{row_at, job_states_of}
 use Rattle.ws_board.proofs.Standing.{status_row, action_row, length_statuses, length_actions, row_same, row_other, open_inside, owed_set, due_at}
 use Rattle.ws_board.proofs.Onward.{drop_past}
 use Rattle.ws_board.proofs.Listing.{any_push, eqb_same, eqb_not}
@@ -54,7 +54,7 @@ both_first : (a b : Bool) → (a && b) ≡ true → a ≡ true
 both_first true b h = refl
 both_first false b h = h
 
-active_open : (s : Status) → is_active s ≡ true → is_open s ≡ true
+active_open : (s : JobStatus) → is_active s ≡ true → is_open s ≡ true
 active_open Waiting h = refl
 active_open Ready h = refl
 active_open (Running hand) h = refl
@@ -64,13 +64,13 @@ active_open (Done good) h = absurd (cc)
 pub active_inside : (id : List ℕ) (R : List Row) (k : ℕ) → is_active_of R id k ≡ true → k < length R
 active_inside id R k a = open_inside R k (active_open (row_at R k).status (both_first (is_active (row_at R k).status) (has_action_id id (row_at R k).action) a))
 
-active_due : (r : Row) → is_active r.status ≡ true → 1 + telling r.importers ≤ due r
+active_due : (r : Row) → is_active r.status ≡ true → 1 + importer_reads r.importers ≤ due r
 active_due r a = by_status r.status a refl
   where
-    by_status : (s : Status) → is_active s ≡ true → r.status ≡ s → 1 + telling r.importers ≤ due r
+    by_status : (s : JobStatus) → is_active s ≡ true → r.status ≡ s → 1 + importer_reads r.importers ≤ due r
     by_status Waiting h e = absurd (cc)
-    by_status Ready h e = let d : due r ≡ 2 + telling r.importers = ap (λ s. due_of s r.left r.imports r.importers) e in omega (arith, d)
-    by_status (Running hand) h e = let d : due r ≡ 1 + telling r.importers = ap (λ s. due_of s r.left r.imports r.importers) e in omega (arith, d)
+    by_status Ready h e = let d : due r ≡ 2 + importer_reads r.importers = ap (λ s. due_of s r.left r.imports r.importers) e in omega (arith, d)
+    by_status (Running hand) h e = let d : due r ≡ 1 + importer_reads r.importers = ap (λ s. due_of s r.left r.imports r.importers) e in omega (arith, d)
     by_status Blocked h e = absurd (cc)
     by_status (Done good) h e = absurd (cc)
 
@@ -158,7 +158,7 @@ module _ (id : List ℕ) (good : Bool) (old mid : List Row) (xs jobs : List ℕ)
     pub mark_paid : (J : List Job) (I : List (List ℕ)) → AreKnownBy J I old → owed new + untold I ys + 1 ≤ owed mid + untold I xs
     mark_paid J I known =
         let o : owed new ≡ owed (set mid job stood) = ap owed written in
-        let u : untold I ys ≡ untold I xs + telling (length (slice_index_or I job [])) = ap (untold I) pushed ∙ sum_by_push (λ k. telling (length (slice_index_or I k []))) xs job in
+        let u : untold I ys ≡ untold I xs + importer_reads (length (slice_index_or I job [])) = ap (untold I) pushed ∙ sum_by_push (λ k. importer_reads (length (slice_index_or I k []))) xs job in
         let a : is_active now.status ≡ true = both_first (is_active now.status) (has_action_id id now.action) mark_active in
         omega (arith, owed_set mid job stood mark_inside, o, u, active_due now a, importers_is (some.each job))
       where
@@ -204,7 +204,7 @@ module _ (id : List ℕ) (good : Bool) (O N : List Row) (settled : List ℕ) (ma
       by_active true e = ap (λ (r : Row). is_open r.status) e
       by_active false e = ap (λ (r : Row). is_open r.status) e ∙ s
 
-  pub marked_good : (J : List Job) (I : List (List ℕ)) → AreCarriedBy J I O → AreCarriedBy J I N
+  pub marked_good : (J : List Job) (I : List (List ℕ)) → ArePropagatedBy J I O → ArePropagatedBy J I N
   marked_good J I g = record {
     known = record {
       jobs = marks.count ∙ g.known.jobs;
@@ -215,9 +215,9 @@ module _ (id : List ℕ) (good : Bool) (O N : List Row) (settled : List ℕ) (ma
       named = g.known.named;
       inside = g.known.inside;
     };
-    past = λ k w i le lt. marked_shut (slice_index_or (imports_at J k) i 0)
+    past = λ k w i le lt. marked_shut (slice_index_or (job_imports_at J k) i 0)
         (g.past k (ap (λ (r : Row). is_waiting r.status) (sym (marked_waits k w)) ∙ w) i (subst (λ (r : Row). r.left ≤ i) (marked_waits k w) le) lt);
-    within = λ k w. subst (λ (r : Row). r.left ≤ length (imports_at J k)) (sym (marked_waits k w)) (g.within k (ap (λ (r : Row). is_waiting r.status) (sym (marked_waits k w)) ∙ w));
+    within = λ k w. subst (λ (r : Row). r.left ≤ length (job_imports_at J k)) (sym (marked_waits k w)) (g.within k (ap (λ (r : Row). is_waiting r.status) (sym (marked_waits k w)) ∙ w));
     bare = λ k w. marked_actions k ∙ g.bare k (ap (λ (r : Row). r.status) (sym (marked_waits k (ap is_waiting w))) ∙ w);
   }
 
@@ -225,7 +225,7 @@ module _ (id : List ℕ) (good : Bool) (O N : List Row) (settled : List ℕ) (ma
   marked_held J waits j w not =
       let same = marked_waits j w in
       let held : IsHeldUp J O [] j = waits j (ap (λ (r : Row). is_waiting r.status) (sym same) ∙ w) refl in
-      let v : watched J N j ≡ watched J O j = ap (λ (r : Row). slice_index_or (imports_at J j) (r.left - 1) 0) same in
+      let v : watched J N j ≡ watched J O j = ap (λ (r : Row). slice_index_or (job_imports_at J j) (r.left - 1) 0) same in
       let left : (row_at N j).left ≡ (row_at O j).left = ap (λ (r : Row). r.left) same in
       record {
         some = omega (arith, left, held.some);
@@ -254,7 +254,7 @@ module _ (id : List ℕ) (good : Bool) (O N : List Row) (settled : List ℕ) (ma
           by_active true e = or_second (is_open (row_at N v).status) (list_any (λ k. eqb k v) settled) (marks.told v e)
           by_active false e = or_first (is_open (row_at N v).status) (list_any (λ k. eqb k v) settled) (ap (λ (r : Row). is_open r.status) (marks.each v ∙ ap (λ (b : Bool). if b then record (row_at O v) { status = Done good } else row_at O v) e) ∙ o)
 
-  pub marked_is : IsMarked id good (standings_of O) (standings_of N)
+  pub marked_is : IsMarked id good (job_states_of O) (job_states_of N)
   marked_is = record {
     same_length = length_statuses N ∙ marks.count ∙ sym (length_statuses O);
     each = λ k. status_row N k ∙ ap (λ (r : Row). r.status) (marks.each k) ∙ status_of (is_active_of O id k) k ∙ mark_row k;
@@ -265,8 +265,8 @@ module _ (id : List ℕ) (good : Bool) (O N : List Row) (settled : List ℕ) (ma
       status_of true k = refl
       status_of false k = refl
 
-      mark_row : (k : ℕ) → (if is_active_of O id k then Done good else (row_at O k).status) ≡ mark (standings_of O).actions id good k (status_at (standings_of O).statuses k)
-      mark_row k = ap (λ s. if is_active s && has_action_id id (row_at O k).action then Done good else s) (sym (status_row O k)) ∙ ap (λ (a : Option Action). if is_active (status_at (standings_of O).statuses k) && has_action_id id a then Done good else status_at (standings_of O).statuses k) (sym (action_row O k))
+      mark_row : (k : ℕ) → (if is_active_of O id k then Done good else (row_at O k).status) ≡ mark (job_states_of O).actions id good k (status_at (job_states_of O).statuses k)
+      mark_row k = ap (λ s. if is_active s && has_action_id id (row_at O k).action then Done good else s) (sym (status_row O k)) ∙ ap (λ (a : Option Action). if is_active (status_at (job_states_of O).statuses k) && has_action_id id a then Done good else status_at (job_states_of O).statuses k) (sym (action_row O k))
 
-      actions_same : (standings_of N).actions ≡ (standings_of O).actions
-      actions_same = ext_get_or None (standings_of N).actions (standings_of O).actions (length_actions N ∙ marks.count ∙ sym (length_actions O)) (λ k lt. action_row N k ∙ marked_actions k ∙ sym (action_row O k))
+      actions_same : (job_states_of N).actions ≡ (job_states_of O).actions
+      actions_same = ext_get_or None (job_states_of N).actions (job_states_of O).actions (length_actions N ∙ marks.count ∙ sym (length_actions O)) (λ k lt. action_row N k ∙ marked_actions k ∙ sym (action_row O k))

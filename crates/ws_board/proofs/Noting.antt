@@ -7,13 +7,13 @@ use Rattle.std.proofs.Math.ListN.{set, length-set}
 use Rattle.std.proofs.lemmas.Bool.{cases_eq}
 use Rattle.std.proofs.lemmas.Slice.Eq.{bytes_eq-Decides}
 use Rattle.ws_action.specs.Actions.{Action, action_id}
-use Rattle.ws_board.specs.declared.work.Status.{Status}
-use Rattle.ws_board.specs.declared.work.Status.TheVariants.{Waiting, Ready, Running, Blocked, Done}
+use Rattle.ws_board.specs.declared.work.JobStatus.{JobStatus}
+use Rattle.ws_board.specs.declared.work.JobStatus.TheVariants.{Waiting, Ready, Running, Blocked, Done}
 use Rattle.ws_board.specs.declared.table.Row.{Row}
 use Rattle.ws_board.specs.declared.index.Run.{Run}
 use Rattle.ws_board.specs.Machine.{is_ready, is_active, is_running, has_action_id}
 use Rattle.ws_board.specs.Rows.{times, is_active_of, Marks}
-use Rattle.ws_board.specs.Table.{row_at, standings_of}
+use Rattle.ws_board.specs.Table.{row_at, job_states_of}
 use Rattle.ws_board.specs.Indexes.{is_unrun, IsRunAt, AgreesBy}
 use Rattle.ws_board.proofs.Runs.{at_most}
 use Rattle.ws_board.proofs.Ids.{of_id, at_id, off_id, same_id_or}
@@ -96,7 +96,7 @@ module _ (R N : List Row) (jobs : List ℕ → List ℕ) (run : List ℕ → Opt
     running = (
         let a : ◌≡◌ {A = ℕ} (cond (is_running (row_at R k).status) 1 0) 0 = ap (λ s. cond (is_running s) 1 0) ready in
         let b : ◌≡◌ {A = ℕ} (cond (is_running row.status) 1 0) 1 = ap (λ s. cond (is_running s) 1 0) runs in
-        let c : count_by is_running (standings_of N).statuses ≡ count_by is_running (standings_of (set R k row)).statuses = ap (λ rs. count_by is_running (standings_of rs).statuses) written in
+        let c : count_by is_running (job_states_of N).statuses ≡ count_by is_running (job_states_of (set R k row)).statuses = ap (λ rs. count_by is_running (job_states_of rs).statuses) written in
         omega (arith, runs_set R k row inside, a, b, c, more, agrees.running)
         );
   }
@@ -167,7 +167,7 @@ module _ (R N : List Row) (jobs : List ℕ → List ℕ) (run : List ℕ → Opt
     running = (
         let a : ◌≡◌ {A = ℕ} (cond (is_running (row_at R k).status) 1 0) 1 = ap (λ s. cond (is_running s) 1 0) runs in
         let b : ◌≡◌ {A = ℕ} (cond (is_running row.status) 1 0) 0 = ap (λ s. cond (is_running s) 1 0) ready in
-        let c : count_by is_running (standings_of N).statuses ≡ count_by is_running (standings_of (set R k row)).statuses = ap (λ rs. count_by is_running (standings_of rs).statuses) written in
+        let c : count_by is_running (job_states_of N).statuses ≡ count_by is_running (job_states_of (set R k row)).statuses = ap (λ rs. count_by is_running (job_states_of rs).statuses) written in
         omega (arith, runs_set R k row inside, a, b, c, fewer, agrees.running)
         );
   }
@@ -205,7 +205,7 @@ module _ (R N : List Row) (jobs : List ℕ → List ℕ) (run : List ℕ → Opt
         | inr ne ↦ ap (λ (r : Row). is_ready r.status) (other j ne) ∙ by_running ne (is_running (row_at R j).status) refl
       ]
         where
-          not_running : (s : Status) → is_active s ≡ true → is_running s ≡ false → is_ready s ≡ true
+          not_running : (s : JobStatus) → is_active s ≡ true → is_running s ≡ false → is_ready s ≡ true
           not_running Waiting a r = absurd (cc)
           not_running Ready a r = refl
           not_running (Running h) a r = absurd (cc)
@@ -283,12 +283,12 @@ module _ (R N : List Row) (jobs : List ℕ → List ℕ) (run : List ℕ → Opt
   stood = record (row_at R k) { status = Done good }
 
   -- one job runs less
-  fewer : count_by is_running (standings_of N).statuses + 1 ≡ count_by is_running (standings_of R).statuses
+  fewer : count_by is_running (job_states_of N).statuses + 1 ≡ count_by is_running (job_states_of R).statuses
   fewer =
-      let S = (standings_of (set R k stood)).statuses in
-      let lens : length (standings_of N).statuses ≡ length S = length_statuses N ∙ marks.count ∙ sym (length_statuses (set R k stood) ∙ length-set R k stood) in
-      let a = at_most is_running S (standings_of N).statuses lens (λ j. (λ e. ap is_running (status_row (set R k stood) j) ∙ run_there j (sym (ap is_running (status_row N j)) ∙ e))) in
-      let b = at_most is_running (standings_of N).statuses S (sym lens) (λ j. (λ e. ap is_running (status_row N j) ∙ run_back j (sym (ap is_running (status_row (set R k stood) j)) ∙ e))) in
+      let S = (job_states_of (set R k stood)).statuses in
+      let lens : length (job_states_of N).statuses ≡ length S = length_statuses N ∙ marks.count ∙ sym (length_statuses (set R k stood) ∙ length-set R k stood) in
+      let a = at_most is_running S (job_states_of N).statuses lens (λ j. (λ e. ap is_running (status_row (set R k stood) j) ∙ run_there j (sym (ap is_running (status_row N j)) ∙ e))) in
+      let b = at_most is_running (job_states_of N).statuses S (sym lens) (λ j. (λ e. ap is_running (status_row N j) ∙ run_back j (sym (ap is_running (status_row (set R k stood) j)) ∙ e))) in
       let x : ◌≡◌ {A = ℕ} (cond (is_running (row_at R k).status) 1 0) 1 = ap (λ s. cond (is_running s) 1 0) runs in
       let y : ◌≡◌ {A = ℕ} (cond (is_running stood.status) 1 0) 0 = refl in
       omega (arith, a, b, x, y, runs_set R k stood inside)

@@ -8,7 +8,7 @@ use Rattle.ws_action.proofs.Members.{later, at_head}
 use Rattle.ws_cache.specs.Compiles.{Compiled, IsResult}
 use Rattle.ws_cache.proofs.Outcomes.{one_result}
 use Rattle.ws_board.specs.Work.{Work, Job, acted}
-use Rattle.ws_board.specs.Ends.{End, Blocked, Came, summary_in, end_at, HasAction, IsEnd, AreEnds, work_in, imports_in, imports_at, work_at, IsRanked}
+use Rattle.ws_board.specs.Ends.{End, Blocked, Came, summary_in, end_at, HasAction, IsEnd, AreEnds, work_in, job_imports, job_imports_at, work_at, IsRanked}
 
 -- ---- induction by ranks
 
@@ -112,12 +112,12 @@ one_of a b job (Came x r) (Came y s) same g h =
     let results : r ≡ s = same_result a b job x y r s g.0 h.0 there refl refl g.1 h.1 in
     ap (λ z. Came z r) actions ∙ ap (Came y) results
 
-one_in : (a b : List End) (o : Option Job) (e f : End) → ((w : Work) → work_in o ≡ Some w → (k : ℕ) → Contains (imports_in o) k → Agrees a b k × Agrees b a k) → IsEndIn a o e → IsEndIn b o f → e ≡ f
+one_in : (a b : List End) (o : Option Job) (e f : End) → ((w : Work) → work_in o ≡ Some w → (k : ℕ) → Contains (job_imports o) k → Agrees a b k × Agrees b a k) → IsEndIn a o e → IsEndIn b o f → e ≡ f
 one_in a b None e f same g h = g ∙ sym h
 one_in a b (Some job) e f same g h = one_of a b job e f (λ k w its c. same w its k c) g h
 
 module _ (jobs : List Job) (rank : ℕ → ℕ) (down : IsRanked rank jobs) (a b : List End) (g : AreEnds jobs a) (h : AreEnds jobs b) where
-  import_of : (j k : ℕ) (w : Work) → work_at jobs j ≡ Some w → Contains (imports_at jobs j) k → ((i : ℕ) → rank i < rank j → end_at a i ≡ end_at b i) → Agrees a b k × Agrees b a k
+  import_of : (j k : ℕ) (w : Work) → work_at jobs j ≡ Some w → Contains (job_imports_at jobs j) k → ((i : ℕ) → rank i < rank j → end_at a i ≡ end_at b i) → Agrees a b k × Agrees b a k
   import_of j k w its c below = (
     λ s is. let v = has_work a (slice_get jobs k) (end_at a k) s (zip_at a jobs a g k) is in below k (down j k w v.0 its c v.1),
     λ s is. let v = has_work b (slice_get jobs k) (end_at b k) s (zip_at b jobs b h k) is in sym (below k (down j k w v.0 its c v.1)),

@@ -9,46 +9,46 @@ use Rattle.ws_action.specs.Actions.{Action, action_id, IsSized}
 use Rattle.ws_action.proofs.Members.{none_in_empty}
 use Rattle.ws_cache.specs.Held.{CacheStandsFor}
 use Rattle.ws_cache.proofs.Joined.{empty_stands}
-use Rattle.ws_board.specs.declared.work.Status.{Status}
-use Rattle.ws_board.specs.declared.work.Status.TheVariants.{Waiting, Ready, Running, Blocked as Stays, Done}
-use Rattle.ws_board.specs.Work.{Work, Job, Standings, Opening, Seen}
-use Rattle.ws_board.specs.Machine.{Held, is_open, is_running, is_active, status_at, action_at, any_open, held, HasSummary, IsVerdict, Wait}
+use Rattle.ws_board.specs.declared.work.JobStatus.{JobStatus}
+use Rattle.ws_board.specs.declared.work.JobStatus.TheVariants.{Waiting, Ready, Running, Blocked as Stays, Done}
+use Rattle.ws_board.specs.Work.{Work, Job, JobStates, Opening, Seen}
+use Rattle.ws_board.specs.Machine.{Holdings, is_open, is_running, is_active, status_at, action_at, any_open, held, JobHasSummary, IsReadiness, Wait}
 use Rattle.ws_board.specs.Calls.{IsFresh}
-use Rattle.ws_board.specs.Ends.{End, end_at, came, imports_in, AreEnds, IsRanked, AreClear, AllGood, IsShown, ShowsEnds}
+use Rattle.ws_board.specs.Ends.{End, end_at, end_results, job_imports, AreEnds, IsRanked, AreClear, AllGood, IsEndOfJob, ShowsEnds}
 use Rattle.ws_board.proofs.Meeting.{Meets, meets, formed_of, comes}
 use Rattle.ws_board.proofs.Runs.{counted_none}
 use Rattle.ws_board.proofs.Sounds.{IsSound, KeepsIn, first_keeps}
 use Rattle.ws_board.proofs.Tells.{clear_with, tells_by, held_from, some_of}
 
-all_good_of : (h : Held) (now : Standings) (ks : List ℕ) (ss : List Summary) → AllZip (HasSummary h now) ks ss → AllGood now.statuses ks
+all_good_of : (h : Holdings) (now : JobStates) (ks : List ℕ) (ss : List Summary) → AllZip (JobHasSummary h now) ks ss → AllGood now.statuses ks
 all_good_of h now [] [] z = All-nil (λ k. status_at now.statuses k ≡ Done true)
 all_good_of h now [] (s ∷ ss) z = absurd z
 all_good_of h now (k ∷ ks) [] z = absurd z
 all_good_of h now (k ∷ ks) (s ∷ ss) z = All-cons (λ k. status_at now.statuses k ≡ Done true) k ks z.0.done (all_good_of h now ks ss z.1)
 
-good_shut : (now : Standings) (ks : List ℕ) → AllGood now.statuses ks → any_open now ks ≡ false
+good_shut : (now : JobStates) (ks : List ℕ) → AllGood now.statuses ks → any_open now ks ≡ false
 good_shut now [] all = refl
 good_shut now (k ∷ ks) all =
     ap (λ b. b || any_open now ks) (ap is_open (All-head (λ k. status_at now.statuses k ≡ Done true) k ks all)) ∙ good_shut now ks (All-tail (λ k. status_at now.statuses k ≡ Done true) k ks all)
 
-waits_open : (h : Held) (now : Standings) (o : Option Work) (ks : List ℕ) → IsVerdict h now o ks Wait → AllGood now.statuses ks → ⊥
+waits_open : (h : Holdings) (now : JobStates) (o : Option Work) (ks : List ℕ) → IsReadiness h now o ks Wait → AllGood now.statuses ks → ⊥
 waits_open h now None ks v all = cc
 waits_open h now (Some work) ks v all = let c : false ≡ true = sym (good_shut now ks all) ∙ v in cc
 
 -- where an action is formed all imports are good
-formed_good : (h : Held) (now : Standings) (o : Option Job) (s : Status) (x : Option Action) (a : Action) → IsSound h now o s x → x ≡ Some a → AllGood now.statuses (imports_in o)
+formed_good : (h : Holdings) (now : JobStates) (o : Option Job) (s : JobStatus) (x : Option Action) (a : Action) → IsSound h now o s x → x ≡ Some a → AllGood now.statuses (job_imports o)
 formed_good h now o s x a sound its =
     let f = formed_of h now o s x a sound its in
-    subst (λ p. AllGood now.statuses (imports_in p)) (sym f.is) (all_good_of h now f.job.imports f.formed.may.summaries f.formed.may.have)
+    subst (λ p. AllGood now.statuses (job_imports p)) (sym f.is) (all_good_of h now f.job.imports f.formed.may.summaries f.formed.may.have)
 
-module _ (seen : Seen) (fresh : IsFresh seen) (E : List Action) (rank : ℕ → ℕ) (ends : List End) (stands : CacheStandsFor seen.opening.cache E) (down : IsRanked rank seen.opening.jobs) (are : AreEnds seen.opening.jobs ends) (clear : AreClear E (came ends)) where
+module _ (seen : Seen) (fresh : IsFresh seen) (E : List Action) (rank : ℕ → ℕ) (ends : List End) (stands : CacheStandsFor seen.opening.cache E) (down : IsRanked rank seen.opening.jobs) (are : AreEnds seen.opening.jobs ends) (clear : AreClear E (end_results ends)) where
   abbrev op : Opening
   op = seen.opening
 
-  abbrev now : Standings
+  abbrev now : JobStates
   now = seen.state.standings
 
-  abbrev h : Held
+  abbrev h : Holdings
   h = held op seen.state
 
   keeps : KeepsIn op seen.state
@@ -57,8 +57,8 @@ module _ (seen : Seen) (fresh : IsFresh seen) (E : List Action) (rank : ℕ → 
   none : CacheStandsFor seen.state.added []
   none = empty_stands seen.state.added fresh.first.added
 
-  tells : (a entry : Action) → Contains (came ends) a → IsSized a → h (action_id a) ≡ Some entry → entry ≡ a
-  tells = tells_by op seen.state E [] (came ends) stands none (clear_with E [] (came ends) (λ a c. absurd (none_in_empty a c)) (λ a c. absurd (none_in_empty a c)) clear)
+  tells : (a entry : Action) → Contains (end_results ends) a → IsSized a → h (action_id a) ≡ Some entry → entry ≡ a
+  tells = tells_by op seen.state E [] (end_results ends) stands none (clear_with E [] (end_results ends) (λ a c. absurd (none_in_empty a c)) (λ a c. absurd (none_in_empty a c)) clear)
 
   -- what is held is of E, and all of E is held
   is_held : (a : Action) → h (action_id a) ≡ Some a → Contains E a
@@ -70,8 +70,8 @@ module _ (seen : Seen) (fresh : IsFresh seen) (E : List Action) (rank : ℕ → 
       let there : h (action_id a) ≡ Some got.0 = ap (λ o. option_or o (get seen.state.added (action_id a))) got.1 in
       let wrong : None ≡ Some got.0 = sym e ∙ there in cc
 
-  shown_ready : (k : ℕ) (s : Status) → status_at now.statuses k ≡ s → s ≡ Ready → IsSound h now (slice_get op.jobs k) Ready (action_at now.actions k)
-      → IsShown E now.statuses (imports_in (slice_get op.jobs k)) (end_at ends k) Ready (action_at now.actions k)
+  shown_ready : (k : ℕ) (s : JobStatus) → status_at now.statuses k ≡ s → s ≡ Ready → IsSound h now (slice_get op.jobs k) Ready (action_at now.actions k)
+      → IsEndOfJob E now.statuses (job_imports (slice_get op.jobs k)) (end_at ends k) Ready (action_at now.actions k)
   shown_ready k s at is sound =
       let its = ready_action (slice_get op.jobs k) (action_at now.actions k) sound in
       let c = comes op.jobs h now ends rank down are keeps tells k its.0 its.1 in
@@ -82,8 +82,8 @@ module _ (seen : Seen) (fresh : IsFresh seen) (E : List Action) (rank : ℕ → 
       ready_action None x sound = let c : Ready ≡ Stays = sound.0 in absurd (cc)
       ready_action (Some job) x sound = (sound.0, sound.1)
 
-  by_status : (k : ℕ) (s : Status) → status_at now.statuses k ≡ s → IsSound h now (slice_get op.jobs k) s (action_at now.actions k) → Meets h s (action_at now.actions k) (end_at ends k)
-      → IsShown E now.statuses (imports_in (slice_get op.jobs k)) (end_at ends k) s (action_at now.actions k)
+  by_status : (k : ℕ) (s : JobStatus) → status_at now.statuses k ≡ s → IsSound h now (slice_get op.jobs k) s (action_at now.actions k) → Meets h s (action_at now.actions k) (end_at ends k)
+      → IsEndOfJob E now.statuses (job_imports (slice_get op.jobs k)) (end_at ends k) s (action_at now.actions k)
   by_status k Stays at sound m = m
   by_status k (Running hand) at sound m = counted_none now.statuses fresh.nothing_runs k (ap is_running at)
   by_status k Ready at sound m = shown_ready k Ready at refl sound
@@ -91,11 +91,11 @@ module _ (seen : Seen) (fresh : IsFresh seen) (E : List Action) (rank : ℕ → 
       (formed_good h now (slice_get op.jobs k) (Done good) (action_at now.actions k) a sound its, (a, r, its, end, is_held a itself, tells_good, compiled))
   by_status k Waiting at sound m = by_job (slice_get op.jobs k) (action_at now.actions k) sound
     where
-      by_job : (o : Option Job) (x : Option Action) → IsSound h now o Waiting x → (x ≡ None) × ¬ (AllGood now.statuses (imports_in o))
+      by_job : (o : Option Job) (x : Option Action) → IsSound h now o Waiting x → (x ≡ None) × ¬ (AllGood now.statuses (job_imports o))
       by_job None x sound = let c : Waiting ≡ Stays = sound.0 in absurd (cc)
       by_job (Some job) x sound = (sound.0, waits_open h now job.work job.imports sound.1)
 
-  shown_at : (k : ℕ) → IsShown E now.statuses (imports_in (slice_get op.jobs k)) (end_at ends k) (status_at now.statuses k) (action_at now.actions k)
+  shown_at : (k : ℕ) → IsEndOfJob E now.statuses (job_imports (slice_get op.jobs k)) (end_at ends k) (status_at now.statuses k) (action_at now.actions k)
   shown_at k = by_status k (status_at now.statuses k) refl (keeps.sound k) (meets op.jobs h now ends rank down are keeps tells k)
 
 pub shows : (seen : Seen) → IsFresh seen → ShowsEnds seen

@@ -5,16 +5,16 @@ use Rattle.std.specs.List.{All, list_any}
 use Rattle.std.proofs.Math.ListN.{set}
 use Rattle.std.proofs.lemmas.List.Sums.{count_by-le-length}
 use Rattle.ws_action.specs.Actions.{Action, action_id}
-use Rattle.ws_board.specs.declared.work.Status.TheVariants.{Ready, Running}
+use Rattle.ws_board.specs.declared.work.JobStatus.TheVariants.{Ready, Running}
 use Rattle.ws_board.specs.declared.work.Event.{Event}
 use Rattle.ws_board.specs.declared.work.Event.TheVariants.{Take, Back}
 use Rattle.ws_board.specs.declared.table.Row.{Row}
 use Rattle.ws_board.specs.declared.index.Index.{Index}
 use Rattle.ws_board.specs.Work.{Job}
 use Rattle.ws_board.specs.Machine.{is_open, is_active, has_action_id, is_running, IsFree, IsRunBy, IsRunWith, NoneFree, stood}
-use Rattle.ws_board.specs.Rows.{is_active_of, is_back, AreCarriedBy, Waits, KnowsBacks, IsPaid}
-use Rattle.ws_board.specs.Table.{row_at, standings_of}
-use Rattle.ws_board.specs.Indexes.{id_in, jobs_in, run_in, is_free_in, Changes, Agrees}
+use Rattle.ws_board.specs.Rows.{is_active_of, is_back, ArePropagatedBy, Waits, KnowsBacks, IsPaid}
+use Rattle.ws_board.specs.Table.{row_at, job_states_of}
+use Rattle.ws_board.specs.Indexes.{id_in, jobs_in, run_in, is_free_in, ChangesIndex, Agrees}
 use Rattle.ws_board.proofs.Standing.{length_statuses, open_inside, row_same}
 use Rattle.ws_board.proofs.Listing.{eqb_same, eqb_not}
 use Rattle.ws_board.proofs.Agreeing.{both_and, has_its, id_is, listed_some, jobs_inside, free_unrun, free_so}
@@ -23,8 +23,8 @@ use Rattle.ws_board.proofs.Stepping.{free_is_free, none_is_free, least_free, sto
 use Rattle.ws_board.proofs.Activating.{kept_of, act_good, act_waits, act_backs, back_backs, taken_paid, back_paid}
 use Rattle.ws_board.proofs.Boarding.{run_row, row_run, runs_some, still_count, more_count}
 
-pub few_run : (R : List Row) → count_by is_running (standings_of R).statuses ≤ length R
-few_run R = omega (arith, count_by-le-length is_running (standings_of R).statuses, length_statuses R)
+pub few_run : (R : List Row) → count_by is_running (job_states_of R).statuses ≤ length R
+few_run R = omega (arith, count_by-le-length is_running (job_states_of R).statuses, length_statuses R)
 
 -- ---- what the index says of the rows
 
@@ -44,14 +44,14 @@ module _ (R : List Row) (x : Index) (agrees : Agrees R x) where
   pub one_more_runs : length R < 2 ^ 63 → x.running + 1 < 2 ^ 64
   one_more_runs fits = omega (arith, fits, agrees.running, few_run R)
 
-  pub none_free : ((k : ℕ) → is_free_in x k ≡ false) → NoneFree (standings_of R)
+  pub none_free : ((k : ℕ) → is_free_in x k ≡ false) → NoneFree (job_states_of R)
   none_free none = none_is_free R (jobs_in x) (run_in x) (is_free_in x) (length x.free) x.running agrees none
 
-  pub first_least : (k : ℕ) → ((j : ℕ) → j < k → is_free_in x j ≡ false) → (j : ℕ) (action : Action) → IsFree (standings_of R) j action → k ≤ j
+  pub first_least : (k : ℕ) → ((j : ℕ) → j < k → is_free_in x j ≡ false) → (j : ℕ) (action : Action) → IsFree (job_states_of R) j action → k ≤ j
   first_least = least_free R (jobs_in x) (run_in x) (is_free_in x) (length x.free) x.running agrees
 
   -- who runs an id, by the index and by the rows
-  pub runs_by : (hand job : ℕ) (id : List ℕ) → (run_in x id ≡ Some (record { hand = hand; job = job })) ↔ IsRunWith (standings_of R) hand job id
+  pub runs_by : (hand job : ℕ) (id : List ℕ) → (run_in x id ≡ Some (record { hand = hand; job = job })) ↔ IsRunWith (job_states_of R) hand job id
   runs_by hand job id = (
     λ e. (let p = (agrees.runs id hand job).0 e in let a = id_is id (row_at R job).action p.1 in record { action = a.0; run = row_run R hand job a.0 p.0 a.1; its = a.2 }),
     λ w. (let p = run_row R hand job w.action w.run in (agrees.runs id hand job).1 (p.0, has_its id (row_at R job).action w.action p.1 w.its)),
@@ -59,7 +59,7 @@ module _ (R : List Row) (x : Index) (agrees : Agrees R x) where
 
 -- ---- a job is taken
 
-module _ (J : List Job) (I : List (List ℕ)) (R N : List Row) (x y : Index) (k hand : ℕ) (action : Action) (good : AreCarriedBy J I R) (agrees : Agrees R x) (free : is_free_in x k ≡ true) (its : (row_at R k).action ≡ Some action)
+module _ (J : List Job) (I : List (List ℕ)) (R N : List Row) (x y : Index) (k hand : ℕ) (action : Action) (good : ArePropagatedBy J I R) (agrees : Agrees R x) (free : is_free_in x k ≡ true) (its : (row_at R k).action ≡ Some action)
     (written : N ≡ set R k (record (row_at R k) { status = Running hand })) where
   abbrev runs : Row
   runs = record (row_at R k) { status = Running hand }
@@ -76,19 +76,19 @@ module _ (J : List Job) (I : List (List ℕ)) (R N : List Row) (x y : Index) (k 
   pub take_kept : id_in x.ids.entries (action_id action) ≢ None
   take_kept = listed_kept R x agrees (action_id action) k so.2
 
-  pub take_free : IsFree (standings_of R) k action
+  pub take_free : IsFree (job_states_of R) k action
   take_free = free_is_free R (jobs_in x) (run_in x) (is_free_in x) (length x.free) x.running agrees k action so.0 its so.1
 
-  pub take_stood : standings_of N ≡ stood (standings_of R) k (Running hand)
+  pub take_stood : job_states_of N ≡ stood (job_states_of R) k (Running hand)
   take_stood = stood_row R N k runs (Running hand) written refl refl
 
-  -- the hand runs it
-  pub taken_run : IsRunBy (standings_of N) hand k action
+  -- the worker runs it
+  pub taken_run : IsRunBy (job_states_of N) hand k action
   taken_run =
       let here : row_at N k ≡ runs = ap (λ rs. row_at rs k) written ∙ row_same R k runs inside in
       row_run N hand k action (ap (λ (r : Row). r.status) here) (ap (λ (r : Row). r.action) here ∙ its)
 
-  pub take_good : AreCarriedBy J I N
+  pub take_good : ArePropagatedBy J I N
   take_good = act_good J I R N k runs good written inside was refl refl refl refl
 
   pub take_waits : Waits J R [] (λ j. false) → Waits J N [] (λ j. false)
@@ -101,7 +101,7 @@ module _ (J : List Job) (I : List (List ℕ)) (R N : List Row) (x y : Index) (k 
   take_paid looks next imports history all by is one paid =
       taken_paid J I R N k runs good written inside was refl refl refl refl looks next imports (count_by is_back history) (count_by is_back all) hand so.0 refl one (still_count history all (Take by k) is refl) paid
 
-  pub take_agrees : Changes x y (action_id action) (jobs_in x (action_id action)) (Some (record { hand = hand; job = k }))
+  pub take_agrees : ChangesIndex x y (action_id action) (jobs_in x (action_id action)) (Some (record { hand = hand; job = k }))
       → ((j : ℕ) → is_free_in y j ≡ (if list_any (λ i. eqb i j) (jobs_in x (action_id action)) then false else is_free_in x j))
       → length y.free ≡ length x.free → y.running ≡ x.running + 1 → Agrees N y
   take_agrees changes marked len more =
@@ -110,7 +110,7 @@ module _ (J : List Job) (I : List (List ℕ)) (R N : List Row) (x y : Index) (k 
 
 -- ---- a job is given back
 
-module _ (J : List Job) (I : List (List ℕ)) (R N : List Row) (x y : Index) (k hand : ℕ) (action : Action) (good : AreCarriedBy J I R) (agrees : Agrees R x) (run : IsRunBy (standings_of R) hand k action)
+module _ (J : List Job) (I : List (List ℕ)) (R N : List Row) (x y : Index) (k hand : ℕ) (action : Action) (good : ArePropagatedBy J I R) (agrees : Agrees R x) (run : IsRunBy (job_states_of R) hand k action)
     (written : N ≡ set R k (record (row_at R k) { status = Ready; was_back = true })) where
   abbrev ready : Row
   ready = record (row_at R k) { status = Ready; was_back = true }
@@ -136,10 +136,10 @@ module _ (J : List Job) (I : List (List ℕ)) (R N : List Row) (x y : Index) (k 
   pub back_inside : k < length R
   back_inside = stands
 
-  pub back_stood : standings_of N ≡ stood (standings_of R) k Ready
+  pub back_stood : job_states_of N ≡ stood (job_states_of R) k Ready
   back_stood = stood_row R N k ready Ready written refl refl
 
-  pub back_good : AreCarriedBy J I N
+  pub back_good : ArePropagatedBy J I N
   back_good = act_good J I R N k ready good written stands acts refl refl refl refl
 
   pub back_waits : Waits J R [] (λ j. false) → Waits J N [] (λ j. false)
@@ -153,7 +153,7 @@ module _ (J : List Job) (I : List (List ℕ)) (R N : List Row) (x y : Index) (k 
   back_pays looks imports history all by is paid =
       back_paid J I R N k ready good written stands acts refl refl refl refl looks imports (count_by is_back history) (count_by is_back all) hand at.0 refl (more_count history all (Back by k) is refl) paid
 
-  pub back_agrees : Changes x y (action_id action) (jobs_in x (action_id action)) None → ((j : ℕ) → is_free_in y j ≡ (if list_any (λ i. eqb i j) (jobs_in x (action_id action)) then true else is_free_in x j))
+  pub back_agrees : ChangesIndex x y (action_id action) (jobs_in x (action_id action)) None → ((j : ℕ) → is_free_in y j ≡ (if list_any (λ i. eqb i j) (jobs_in x (action_id action)) then true else is_free_in x j))
       → length y.free ≡ length x.free → y.running + 1 ≡ x.running → Agrees N y
   back_agrees changes marked len fewer =
       given_agrees R N (jobs_in x) (run_in x) (is_free_in x) (length x.free) x.running agrees k ready written stands action at.1 refl acts refl hand

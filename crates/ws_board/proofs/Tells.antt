@@ -11,7 +11,7 @@ use Rattle.ws_action.proofs.Members.{none_in_empty, head_or_later, later, at_hea
 use Rattle.ws_action.proofs.OneAction.{one_action}
 use Rattle.ws_cache.specs.Held.{IsLeast, IsHeld, CacheStandsFor}
 use Rattle.ws_cache.proofs.Joined.{cache_stands}
-use Rattle.ws_board.specs.Work.{Entries, Opening, State}
+use Rattle.ws_board.specs.Work.{Entries, Opening, BoardState}
 use Rattle.ws_board.specs.Machine.{held}
 use Rattle.ws_board.specs.Ends.{AreClear}
 
@@ -95,7 +95,7 @@ held_by : (m n : Entries) (E N : List Action) → CacheStandsFor m E → CacheSt
 held_by m n E N g h id b None p e f is = let l = least_of n N h id b (f ∙ is) in (inr l.among, l.known)
 held_by m n E N g h id b (Some x) p e f is = let l = least_of m E g id b (e ∙ is) in (inl l.among, l.known)
 
-pub held_from : (opening : Opening) (now : State) (E N : List Action) → CacheStandsFor opening.cache E → CacheStandsFor now.added N → (id : List ℕ) (b : Action) → held opening now id ≡ Some b → (Contains E b ⊎ Contains N b) × (action_id b ≡ id)
+pub held_from : (opening : Opening) (now : BoardState) (E N : List Action) → CacheStandsFor opening.cache E → CacheStandsFor now.added N → (id : List ℕ) (b : Action) → held opening now id ≡ Some b → (Contains E b ⊎ Contains N b) × (action_id b ≡ id)
 held_from opening now E N g h id b is = held_by opening.cache now.added E N g h id b (get opening.cache id) (get now.added id) refl refl is
 
 pub in_either : (E N : List Action) (b : Action) → Contains E b ⊎ Contains N b → Contains (E ++ N) b
@@ -103,7 +103,7 @@ in_either E N b (inl c) = Contains-append_left E N b c
 in_either E N b (inr c) = Contains-append_right E N b c
 
 -- what is held for the id of an action that comes is that action
-pub tells_by : (opening : Opening) (now : State) (E N C : List Action) → CacheStandsFor opening.cache E → CacheStandsFor now.added N → AreClear (E ++ N) C
+pub tells_by : (opening : Opening) (now : BoardState) (E N C : List Action) → CacheStandsFor opening.cache E → CacheStandsFor now.added N → AreClear (E ++ N) C
     → (a entry : Action) → Contains C a → IsSized a → held opening now (action_id a) ≡ Some entry → entry ≡ a
 tells_by opening now E N C stands added clear a entry c s is =
     let from = held_from opening now E N stands added (action_id a) entry is in

@@ -1,4 +1,4 @@
--- What becomes of jobs, from the jobs alone: no ids, no cache, no hands, no order.
+-- What becomes of jobs, from the jobs alone: no ids, no cache, no workers, no order.
 use Rattle.std.specs.Prelude.{◌≡◌, ℕ, ◌<◌, true, List, [], ◌∷◌, ◌++◌, map, length, Option, Some, None}
 use Rattle.std.specs.List.{All, AllZip, slice_get, slice_index_or, Contains, IsDistinct, count_by}
 use Rattle.std.specs.Str.{bytes_eq}
@@ -12,11 +12,11 @@ use Rattle.ws_cache.specs.Compiles.{Compiled, Compiles, Good, IsResult}
 use Rattle.ws_cache.specs.Count.{compiled_count}
 use Rattle.ws_cache.specs.Held.{CacheStandsFor}
 use Rattle.ws_cache.specs.Joined.{lesser}
-use Rattle.ws_board.specs.declared.work.Status.{Status}
-use Rattle.ws_board.specs.declared.work.Status.TheVariants.{Waiting, Ready, Running, Blocked as Stays, Done}
+use Rattle.ws_board.specs.declared.work.JobStatus.{JobStatus}
+use Rattle.ws_board.specs.declared.work.JobStatus.TheVariants.{Waiting, Ready, Running, Blocked as Stays, Done}
 use Rattle.ws_board.specs.declared.work.Taken.{Taken}
 use Rattle.ws_board.specs.declared.work.Taken.TheVariants as taken
-use Rattle.ws_board.specs.Work.{Work, Job, Opening, Standings, Seen, acted}
+use Rattle.ws_board.specs.Work.{Work, Job, Opening, JobStates, Seen, acted}
 use Rattle.ws_board.specs.Machine.{is_good_result, status_at, action_at, is_finish}
 use Rattle.ws_board.specs.Calls.{result_at}
 
@@ -51,18 +51,18 @@ IsEnd ends job (Came action result) = (has : HasAction ends job action) × IsRes
 abbrev pub AreEnds : List Job → List End → Type 0
 AreEnds jobs ends = AllZip (IsEnd ends) jobs ends
 
-abbrev pub came_of : End → Option Action
-came_of Blocked = None
-came_of (Came action result) = Some action
+abbrev pub end_result : End → Option Action
+end_result Blocked = None
+end_result (Came action result) = Some action
 
 abbrev pub somes : {X : Type 0} → List (Option X) → List X
 somes [] = []
 somes (None ∷ xs) = somes xs
 somes (Some x ∷ xs) = x ∷ somes xs
 
--- the actions that came to something
-abbrev pub came : List End → List Action
-came ends = somes (map came_of ends)
+-- the actions that have a result
+abbrev pub end_results : List End → List Action
+end_results ends = somes (map end_result ends)
 
 abbrev pub work_in : Option Job → Option Work
 work_in None = None
@@ -71,16 +71,16 @@ work_in (Some job) = job.work
 abbrev pub work_at : List Job → ℕ → Option Work
 work_at jobs k = work_in (slice_get jobs k)
 
-abbrev pub imports_in : Option Job → List ℕ
-imports_in None = []
-imports_in (Some job) = job.imports
+abbrev pub job_imports : Option Job → List ℕ
+job_imports None = []
+job_imports (Some job) = job.imports
 
-abbrev pub imports_at : List Job → ℕ → List ℕ
-imports_at jobs k = imports_in (slice_get jobs k)
+abbrev pub job_imports_at : List Job → ℕ → List ℕ
+job_imports_at jobs k = job_imports (slice_get jobs k)
 
 -- imports lead down, among jobs that have work
 abbrev pub IsRanked : (ℕ → ℕ) → List Job → Type 0
-IsRanked rank jobs = (j k : ℕ) (v w : Work) → work_at jobs j ≡ Some v → Contains (imports_at jobs j) k → work_at jobs k ≡ Some w → rank k < rank j
+IsRanked rank jobs = (j k : ℕ) (v w : Work) → work_at jobs j ≡ Some v → Contains (job_imports_at jobs j) k → work_at jobs k ≡ Some w → rank k < rank j
 
 -- the numbers in the entries' texts fit, and no two of the texts of the entries and of what came clash
 pub record AreClear (entries came : List Action) : Type 0 where
@@ -89,18 +89,18 @@ pub record AreClear (entries came : List Action) : Type 0 where
 
 -- What a board came to over a cache that stands for E, where its jobs end so: each answer is the job's end, and compiling its action gives that; both
 -- caches stand for what came as well, and as many were finished as actions were new.
-pub record ComesTo (seen : Seen) (E : List Action) (ends : List End) : Type 0 where
-  pub told : (k : ℕ) → result_at seen k ≡ came_of (end_at ends k)
+pub record HasResultsOf (seen : Seen) (E : List Action) (ends : List End) : Type 0 where
+  pub told : (k : ℕ) → result_at seen k ≡ end_result (end_at ends k)
   pub compiled : (k : ℕ) (action : Action) (result : Compiled) → end_at ends k ≡ Came action result → Compiles action result
-  pub sized : AllSized (came ends)
-  pub stands : CacheStandsFor (joined lesser seen.opening.cache seen.state.added) (E ++ came ends)
-  pub count : count_by is_finish seen.history ≡ compiled_count E (came ends)
+  pub sized : AllSized (end_results ends)
+  pub stands : CacheStandsFor (joined lesser seen.opening.cache seen.state.added) (E ++ end_results ends)
+  pub count : count_by is_finish seen.history ≡ compiled_count E (end_results ends)
 
 -- Over any such E, where imports lead down, the jobs end so, and the texts of E, of other entries N and of what comes don't clash, it came to these ends.
-abbrev pub ComesToEnds : Seen → List Action → Type 0
-ComesToEnds seen N =
+abbrev pub HasResults : Seen → List Action → Type 0
+HasResults seen N =
     (E : List Action) (rank : ℕ → ℕ) (ends : List End) → CacheStandsFor seen.opening.cache E → IsRanked rank seen.opening.jobs → AreEnds seen.opening.jobs ends
-    → AreClear (E ++ N) (came ends) → ComesTo seen E ends
+    → AreClear (E ++ N) (end_results ends) → HasResultsOf seen E ends
 
 -- The entries that were finished, whatever the ids: the new entries are these, each finish added one, and each has an id that neither the opening's
 -- cache has nor another one of them.
@@ -116,44 +116,44 @@ pub record AddsOwn (seen : Seen) : Type 0 where
   pub stands : CacheStandsFor seen.state.added entries
   pub sized : AllSized entries
   pub among : (E : List Action) (rank : ℕ → ℕ) (ends : List End) → CacheStandsFor seen.opening.cache E
-      → IsRanked rank seen.opening.jobs → AreEnds seen.opening.jobs ends → AreClear E (came ends) → Includes (came ends) entries
+      → IsRanked rank seen.opening.jobs → AreEnds seen.opening.jobs ends → AreClear E (end_results ends) → Includes (end_results ends) entries
 
--- Wherever no other texts clash, the action is one that comes; and the numbers in its text fit.
-pub record Comes (opening : Opening) (action : Action) : Type 0 where
+-- If no other texts clash, the action is one of the board's results; and the numbers in its text fit.
+pub record MayBeResult (opening : Opening) (action : Action) : Type 0 where
   pub sized : IsSized action
   pub among : (E : List Action) (rank : ℕ → ℕ) (ends : List End) → CacheStandsFor opening.cache E
-      → IsRanked rank opening.jobs → AreEnds opening.jobs ends → AreClear E (came ends) → Contains (came ends) action
+      → IsRanked rank opening.jobs → AreEnds opening.jobs ends → AreClear E (end_results ends) → Contains (end_results ends) action
 
 -- a task that was given is of such an action, where only such were added
 abbrev pub GivesOwn : Seen → Taken → Type 0
-GivesOwn old (taken.Job task) = AddsOwn old → Comes old.opening task.action
+GivesOwn old (taken.Job task) = AddsOwn old → MayBeResult old.opening task.action
 GivesOwn old taken.Idle = Unit {0}
 GivesOwn old taken.Later = Unit {0}
 
 -- ---- boards that are opened and never run
 
 -- all imports are done and good
-abbrev pub AllGood : List Status → List ℕ → Type 0
+abbrev pub AllGood : List JobStatus → List ℕ → Type 0
 AllGood statuses = All (λ k. status_at statuses k ≡ Done true)
 
--- How a job stands that has this end, where E is held: with all imports done and good it has its action, is ready where that isn't held, and done where
+-- The status of a job that has this end, where E is held: with all imports done and good it has its action, is ready where that isn't held, and done where
 -- it is, with what compiling it gives; else it has none.
-abbrev pub IsShown : List Action → List Status → List ℕ → End → Status → Option Action → Type 0
-IsShown E statuses imports end Waiting action = (action ≡ None) × ¬ (AllGood statuses imports)
-IsShown E statuses imports end Stays action = (action ≡ None) × (end ≡ Blocked)
-IsShown E statuses imports end (Running hand) action = ⊥
-IsShown E statuses imports end Ready action =
+abbrev pub IsEndOfJob : List Action → List JobStatus → List ℕ → End → JobStatus → Option Action → Type 0
+IsEndOfJob E statuses imports end Waiting action = (action ≡ None) × ¬ (AllGood statuses imports)
+IsEndOfJob E statuses imports end Stays action = (action ≡ None) × (end ≡ Blocked)
+IsEndOfJob E statuses imports end (Running hand) action = ⊥
+IsEndOfJob E statuses imports end Ready action =
     AllGood statuses imports × ((its : Action) × (result : Compiled) × (action ≡ Some its) × (end ≡ Came its result) × ¬ (Contains E its))
-IsShown E statuses imports end (Done good) action =
+IsEndOfJob E statuses imports end (Done good) action =
     AllGood statuses imports
     × ((its : Action) × (result : Compiled) × (action ≡ Some its) × (end ≡ Came its result)
     × Contains E its × (good ≡ is_good_result result) × Compiles its result)
 
-abbrev pub IsShownAt : List Action → List Job → Standings → End → ℕ → Type 0
-IsShownAt E jobs now end k = IsShown E now.statuses (imports_at jobs k) end (status_at now.statuses k) (action_at now.actions k)
+abbrev pub IsEndOfJobAt : List Action → List Job → JobStates → End → ℕ → Type 0
+IsEndOfJobAt E jobs now end k = IsEndOfJob E now.statuses (job_imports_at jobs k) end (status_at now.statuses k) (action_at now.actions k)
 
 -- Over any such E, where imports lead down, the jobs end so, and the texts of E and of what comes don't clash, each job stands so.
 abbrev pub ShowsEnds : Seen → Type 0
 ShowsEnds seen =
     (E : List Action) (rank : ℕ → ℕ) (ends : List End) → CacheStandsFor seen.opening.cache E → IsRanked rank seen.opening.jobs → AreEnds seen.opening.jobs ends
-    → AreClear E (came ends) → (k : ℕ) → IsShownAt E seen.opening.jobs seen.state.standings (end_at ends k) k
+    → AreClear E (end_results ends) → (k : ℕ) → IsEndOfJobAt E seen.opening.jobs seen.state.standings (end_at ends k) k

@@ -4,7 +4,7 @@ use Rattle.std.specs.List.{list_any}
 use Rattle.ws_action.specs.Actions.{Action}
 use Rattle.ws_board.specs.declared.work.Event.{Event}
 use Rattle.ws_board.specs.declared.work.Event.TheVariants.{Take, Finish, Back, Idle}
-use Rattle.ws_board.specs.Work.{Standings, Seen}
+use Rattle.ws_board.specs.Work.{JobStates, Seen}
 use Rattle.ws_board.specs.Machine.{is_open, is_run_of, status_at, has_id}
 use Rattle.ws_board.specs.Ends.{IsRanked}
 
@@ -13,7 +13,7 @@ pub record AreSettled (seen : Seen) : Type 0 where
   pub each : (rank : ℕ → ℕ) → IsRanked rank seen.opening.jobs → (k : ℕ) → is_open (status_at seen.state.standings.statuses k) ≡ false
 
 -- At most one job with an id runs.
-pub record RunsAlone (now : Standings) : Type 0 where
+pub record RunsAlone (now : JobStates) : Type 0 where
   pub one : (id : List ℕ) (j k : ℕ) → is_run_of now id j ≡ true → is_run_of now id k ≡ true → j ≡ k
 
 -- a job whose action has the id is given back

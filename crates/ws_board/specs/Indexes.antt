@@ -6,7 +6,7 @@ use Rattle.std.specs.Map.{lookup}
 use Rattle.std.specs.BTreeMap.{is_at}
 use Rattle.ws_map.specs.Keyed.{bytes_cmp}
 use Rattle.ws_action.specs.Actions.{Action, action_id}
-use Rattle.ws_board.specs.declared.work.Status.TheVariants.{Running}
+use Rattle.ws_board.specs.declared.work.JobStatus.TheVariants.{Running}
 use Rattle.ws_board.specs.declared.table.Row.{Row}
 use Rattle.ws_board.specs.declared.index.Id.{Id}
 use Rattle.ws_board.specs.declared.index.Run.{Run}
@@ -14,7 +14,7 @@ use Rattle.ws_board.specs.declared.index.Ready.{Ready as AReady}
 use Rattle.ws_board.specs.declared.index.Index.{Index}
 use Rattle.ws_board.specs.Machine.{is_ready, is_running, has_action_id}
 use Rattle.ws_board.specs.Rows.{times, is_active_of}
-use Rattle.ws_board.specs.Table.{row_at, standings_of}
+use Rattle.ws_board.specs.Table.{row_at, job_states_of}
 
 -- what is kept of an id
 abbrev pub id_in : List (List ℕ × Id) → List ℕ → Option Id
@@ -28,7 +28,7 @@ abbrev pub run_of : Option Id → Option Run
 run_of None = None
 run_of (Some id) = id.run
 
--- the hand runs the job
+-- the worker runs the job
 abbrev pub run_with : ℕ → ℕ → Run
 run_with hand job = record { hand = hand; job = job }
 
@@ -50,13 +50,13 @@ abbrev pub is_free_in : Index → ℕ → Bool
 is_free_in index k = slice_index_or index.free k false
 
 -- only the one id is kept otherwise
-pub record Changes (old new : Index) (id its : List ℕ) (run : Option Run) : Type 0 where
+pub record ChangesIndex (old new : Index) (id its : List ℕ) (run : Option Run) : Type 0 where
   pub jobs : (other : List ℕ) → jobs_in new other ≡ (if bytes_eq id other then its else jobs_in old other)
   pub runs : (other : List ℕ) → run_in new other ≡ (if bytes_eq id other then run else run_in old other)
 
 -- the id has the same jobs, and that one of them runs, or none
 abbrev pub SetsRun : Index → Index → List ℕ → Option Run → Type 0
-SetsRun old new id run = Changes old new id (jobs_in old id) run
+SetsRun old new id run = ChangesIndex old new id (jobs_in old id) run
 
 -- the job stands behind those of the id, and of no other id anything changed
 abbrev pub JoinsIn : (List ℕ → List ℕ) → (List ℕ → List ℕ) → List ℕ → ℕ → Type 0
@@ -76,18 +76,18 @@ pub record IsSameBut (old new : Index) : Type 0 where
   pub free : new.free ≡ old.free
   pub running : new.running ≡ old.running
 
--- whether the job is among those with an id that became ready, and no hand runs the id
+-- whether the job is among those with an id that became ready, and no worker runs the id
 abbrev pub is_released : Index → List AReady → ℕ → Bool
 is_released index ready k = list_any (λ one. (one.job == k) && is_none (run_in index one.id)) ready
 
 -- ---- agreement
 
--- whether no hand runs the id of an action that is formed
+-- whether no worker runs the id of an action that is formed
 abbrev pub is_unrun : (List ℕ → Option Run) → Option Action → Bool
 is_unrun run None = false
 is_unrun run (Some action) = is_none (run (action_id action))
 
--- the hand runs the job, whose action has the id
+-- the worker runs the job, whose action has the id
 abbrev pub IsRunAt : List Row → List ℕ → ℕ → ℕ → Type 0
 IsRunAt rows id hand job = ((row_at rows job).status ≡ Running hand) × (has_action_id id (row_at rows job).action ≡ true)
 
@@ -97,7 +97,7 @@ pub record AgreesBy (rows : List Row) (listed : List ℕ → List ℕ) (run : Li
   pub runs : (id : List ℕ) (hand job : ℕ) → (run id ≡ Some (run_with hand job)) ↔ IsRunAt rows id hand job
   pub count : flags ≡ length rows
   pub free : (k : ℕ) → may k ≡ (is_ready (row_at rows k).status && is_unrun run (row_at rows k).action)
-  pub running : ran ≡ count_by is_running (standings_of rows).statuses
+  pub running : ran ≡ count_by is_running (job_states_of rows).statuses
 
 abbrev pub Agrees : List Row → Index → Type 0
 Agrees rows index = AgreesBy rows (jobs_in index) (run_in index) (is_free_in index) (length index.free) index.running

@@ -1,10 +1,10 @@
 pub mod Calls
-pub mod Carrying
 pub mod Ends
 pub mod Flags
 pub mod Histories
 pub mod Indexes
 pub mod Machine
+pub mod Propagation
 pub mod Rows
 pub mod Table
 pub mod Work

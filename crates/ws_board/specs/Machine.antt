@@ -11,29 +11,29 @@ use Rattle.go_code.specs.Packages.{Object}
 use Rattle.ws_action.specs.Actions.{Action, action_id, MakeAction, IsSized}
 use Rattle.ws_cache.specs.Compiles.{Compiled, Compiles, Good, Faulty}
 use Rattle.ws_cache.specs.Joined.{lesser}
-use Rattle.ws_board.specs.declared.work.Status.{Status}
-use Rattle.ws_board.specs.declared.work.Status.TheVariants.{Waiting, Ready, Running, Blocked, Done}
+use Rattle.ws_board.specs.declared.work.JobStatus.{JobStatus}
+use Rattle.ws_board.specs.declared.work.JobStatus.TheVariants.{Waiting, Ready, Running, Blocked, Done}
 use Rattle.ws_board.specs.declared.work.Event.{Event}
 use Rattle.ws_board.specs.declared.work.Event.TheVariants.{Take, Finish, Back, Idle}
-use Rattle.ws_board.specs.Work.{Work, Job, Standings, Opening, State, acted}
+use Rattle.ws_board.specs.Work.{Work, Job, JobStates, Opening, BoardState, acted}
 
 -- ---- how a job stands
 
-abbrev pub is_waiting : Status → Bool
+abbrev pub is_waiting : JobStatus → Bool
 is_waiting Waiting = true
 is_waiting Ready = false
 is_waiting (Running hand) = false
 is_waiting Blocked = false
 is_waiting (Done good) = false
 
-abbrev pub is_ready : Status → Bool
+abbrev pub is_ready : JobStatus → Bool
 is_ready Waiting = false
 is_ready Ready = true
 is_ready (Running hand) = false
 is_ready Blocked = false
 is_ready (Done good) = false
 
-abbrev pub is_running : Status → Bool
+abbrev pub is_running : JobStatus → Bool
 is_running Waiting = false
 is_running Ready = false
 is_running (Running hand) = true
@@ -41,7 +41,7 @@ is_running Blocked = false
 is_running (Done good) = false
 
 -- ready, or run
-abbrev pub is_active : Status → Bool
+abbrev pub is_active : JobStatus → Bool
 is_active Waiting = false
 is_active Ready = true
 is_active (Running hand) = true
@@ -49,11 +49,11 @@ is_active Blocked = false
 is_active (Done good) = false
 
 -- neither done nor blocked
-abbrev pub is_open : Status → Bool
+abbrev pub is_open : JobStatus → Bool
 is_open status = is_waiting status || is_active status
 
 -- where there is no job, one that is blocked
-abbrev pub status_at : List Status → ℕ → Status
+abbrev pub status_at : List JobStatus → ℕ → JobStatus
 status_at statuses k = slice_index_or statuses k Blocked
 
 -- the action of the job with that number, if it is formed
@@ -70,11 +70,11 @@ has_id actions id k = has_action_id id (action_at actions k)
 -- ---- what imports make of a job
 
 -- what is held for an id
-abbrev pub Held : Type 0
-Held = List ℕ → Option Action
+abbrev pub Holdings : Type 0
+Holdings = List ℕ → Option Action
 
 -- the job is done, and what is held for its action is a good package with this summary
-pub record HasSummary (held : Held) (now : Standings) (job : ℕ) (summary : Summary) : Type 0 where
+pub record JobHasSummary (held : Holdings) (now : JobStates) (job : ℕ) (summary : Summary) : Type 0 where
   pub done : status_at now.statuses job ≡ Done true
   pub action : Action
   pub its : action_at now.actions job ≡ Some action
@@ -84,32 +84,32 @@ pub record HasSummary (held : Held) (now : Standings) (job : ℕ) (summary : Sum
   pub compiled : Compiles entry (Good summary object)
 
 -- the imports are done and good, and their summaries make this action with the work
-pub record MayForm (held : Held) (now : Standings) (work : Work) (imports : List ℕ) (action : Action) : Type 0 where
+pub record MayForm (held : Holdings) (now : JobStates) (work : Work) (imports : List ℕ) (action : Action) : Type 0 where
   pub summaries : List Summary
-  pub have : AllZip (HasSummary held now) imports summaries
+  pub have : AllZip (JobHasSummary held now) imports summaries
   pub make : MakeAction work.edition work.files summaries
   pub is : action ≡ acted work summaries
 
 -- this action is formed: its text tells the summaries, and the numbers in it fit
-pub record IsFormed (held : Held) (now : Standings) (work : Work) (imports : List ℕ) (action : Action) : Type 0 where
+pub record IsFormed (held : Holdings) (now : JobStates) (work : Work) (imports : List ℕ) (action : Action) : Type 0 where
   pub may : MayForm held now work imports action
   pub written : All IsWritten may.summaries
   pub sized : IsSized action
 
-pub data Verdict : Type 0 where
-  Wait : Verdict
-  Stop : Verdict
-  Act : Action → Verdict
+pub data Readiness : Type 0 where
+  Wait : Readiness
+  Stop : Readiness
+  Act : Action → Readiness
 
-abbrev pub any_open : Standings → List ℕ → Bool
+abbrev pub any_open : JobStates → List ℕ → Bool
 any_open now imports = list_any (λ k. is_open (status_at now.statuses k)) imports
 
 -- Without work a job stops. Else it waits while an import is open; then it may go on with the action that is formed, and stops where none may be.
-abbrev pub IsVerdict : Held → Standings → Option Work → List ℕ → Verdict → Type 0
-IsVerdict held now None imports verdict = verdict ≡ Stop
-IsVerdict held now (Some work) imports Wait = any_open now imports ≡ true
-IsVerdict held now (Some work) imports Stop = (any_open now imports ≡ false) × ((action : Action) → ¬ (MayForm held now work imports action))
-IsVerdict held now (Some work) imports (Act action) = IsFormed held now work imports action
+abbrev pub IsReadiness : Holdings → JobStates → Option Work → List ℕ → Readiness → Type 0
+IsReadiness held now None imports verdict = verdict ≡ Stop
+IsReadiness held now (Some work) imports Wait = any_open now imports ≡ true
+IsReadiness held now (Some work) imports Stop = (any_open now imports ≡ false) × ((action : Action) → ¬ (MayForm held now work imports action))
+IsReadiness held now (Some work) imports (Act action) = IsFormed held now work imports action
 
 abbrev pub is_good_result : Compiled → Bool
 is_good_result (Good summary object) = true
@@ -120,121 +120,121 @@ abbrev pub IsGoodness : Action → Bool → Type 0
 IsGoodness action good = (result : Compiled) × Compiles action result × (good ≡ is_good_result result)
 
 -- a job that may be compiled is ready; one whose id is held is done at once
-abbrev pub IsPlaced : Option Action → Status → Type 0
+abbrev pub IsPlaced : Option Action → JobStatus → Type 0
 IsPlaced None status = status ≡ Ready
 IsPlaced (Some entry) status = (good : Bool) × IsGoodness entry good × (status ≡ Done good)
 
 -- it has an action where it may go on
-abbrev pub Follows : Held → Verdict → Status → Option Action → Type 0
+abbrev pub Follows : Holdings → Readiness → JobStatus → Option Action → Type 0
 Follows held Wait status action = (status ≡ Waiting) × (action ≡ None)
 Follows held Stop status action = (status ≡ Blocked) × (action ≡ None)
 Follows held (Act its) status action = IsPlaced (held (action_id its)) status × (action ≡ Some its)
 
--- the job stands as its imports say, by what is held, and has that action
-abbrev pub Stands : Held → Standings → Option Job → Status → Option Action → Type 0
-Stands held now None status action = (status ≡ Blocked) × (action ≡ None)
-Stands held now (Some job) status action = (verdict : Verdict) × IsVerdict held now job.work job.imports verdict × Follows held verdict status action
+-- the job has the status that its imports give it, by what is held, and has that action
+abbrev pub HasStatus : Holdings → JobStates → Option Job → JobStatus → Option Action → Type 0
+HasStatus held now None status action = (status ≡ Blocked) × (action ≡ None)
+HasStatus held now (Some job) status action = (verdict : Readiness) × IsReadiness held now job.work job.imports verdict × Follows held verdict status action
 
--- Waiting jobs are carried on until nothing changes: each that waited stands as its imports say, as they stand then.
-pub record Carried (jobs : List Job) (held : Held) (old new : Standings) : Type 0 where
+-- Results are propagated to waiting jobs until nothing changes: each that waited has the status that its imports then give it.
+pub record Propagated (jobs : List Job) (held : Holdings) (old new : JobStates) : Type 0 where
   pub same_length : (length new.statuses ≡ length old.statuses) × (length new.actions ≡ length old.actions)
   pub others : (j : ℕ) → is_waiting (status_at old.statuses j) ≡ false
       → (status_at new.statuses j ≡ status_at old.statuses j) × (action_at new.actions j ≡ action_at old.actions j)
   pub waiting : (j : ℕ) → is_waiting (status_at old.statuses j) ≡ true
-      → Stands held new (slice_get jobs j) (status_at new.statuses j) (action_at new.actions j)
+      → HasStatus held new (slice_get jobs j) (status_at new.statuses j) (action_at new.actions j)
 
 -- ---- events
 
 -- the opening's cache is asked first
-abbrev pub held : Opening → State → Held
+abbrev pub held : Opening → BoardState → Holdings
 held opening state id = option_or (get opening.cache id) (get state.added id)
 
--- a hand runs the id, by that job
-abbrev pub is_run_of : Standings → List ℕ → ℕ → Bool
+-- a worker runs the id, by that job
+abbrev pub is_run_of : JobStates → List ℕ → ℕ → Bool
 is_run_of now id k = is_running (status_at now.statuses k) && has_id now.actions id k
 
--- the job may be given: it is ready, and no hand runs its id
-pub record IsFree (now : Standings) (job : ℕ) (action : Action) : Type 0 where
+-- the job may be given: it is ready, and no worker runs its id
+pub record IsFree (now : JobStates) (job : ℕ) (action : Action) : Type 0 where
   pub ready : status_at now.statuses job ≡ Ready
   pub its : action_at now.actions job ≡ Some action
   pub apart : (k : ℕ) → is_run_of now (action_id action) k ≡ false
 
--- if the job is ready, a hand runs its id
-abbrev pub IsTaken : Standings → ℕ → Type 0
+-- if the job is ready, a worker runs its id
+abbrev pub IsTaken : JobStates → ℕ → Type 0
 IsTaken now job =
     (action : Action) → status_at now.statuses job ≡ Ready → action_at now.actions job ≡ Some action → (k : ℕ) × (is_run_of now (action_id action) k ≡ true)
 
 -- no job may be given
-abbrev pub NoneFree : Standings → Type 0
+abbrev pub NoneFree : JobStates → Type 0
 NoneFree now = (job : ℕ) → IsTaken now job
 
 -- nothing is ready, and nothing runs
-abbrev pub IsIdle : List Status → Type 0
+abbrev pub IsIdle : List JobStatus → Type 0
 IsIdle statuses = (k : ℕ) → is_active (status_at statuses k) ≡ false
 
--- the hand runs the job
-pub record IsRunBy (now : Standings) (hand job : ℕ) (action : Action) : Type 0 where
+-- the worker runs the job
+pub record IsRunBy (now : JobStates) (hand job : ℕ) (action : Action) : Type 0 where
   pub runs : status_at now.statuses job ≡ Running hand
   pub its : action_at now.actions job ≡ Some action
 
--- the hand runs the job, whose action has the id
-pub record IsRunWith (now : Standings) (hand job : ℕ) (id : List ℕ) : Type 0 where
+-- the worker runs the job, whose action has the id
+pub record IsRunWith (now : JobStates) (hand job : ℕ) (id : List ℕ) : Type 0 where
   pub action : Action
   pub run : IsRunBy now hand job action
   pub its : action_id action ≡ id
 
 -- that job now stands so
-abbrev pub stood : Standings → ℕ → Status → Standings
+abbrev pub stood : JobStates → ℕ → JobStatus → JobStates
 stood old job status = record { statuses = slice_set old.statuses job status; actions = old.actions }
 
 -- what becomes of a job when an id is done: one that is ready or runs is done, if it has that id
-abbrev pub mark : List (Option Action) → List ℕ → Bool → ℕ → Status → Status
+abbrev pub mark : List (Option Action) → List ℕ → Bool → ℕ → JobStatus → JobStatus
 mark actions id good k status = if is_active status && has_id actions id k then Done good else status
 
-pub record IsMarked (id : List ℕ) (good : Bool) (old new : Standings) : Type 0 where
+pub record IsMarked (id : List ℕ) (good : Bool) (old new : JobStates) : Type 0 where
   pub same_length : length new.statuses ≡ length old.statuses
   pub each : (k : ℕ) → status_at new.statuses k ≡ mark old.actions id good k (status_at old.statuses k)
   pub actions : new.actions ≡ old.actions
 
--- The hand runs the job. The entry joins those that were added, the jobs with its id are done, and waiting jobs are carried on.
-pub record Finishes (opening : Opening) (old : State) (hand job : ℕ) (action entry : Action) (new : State) : Type 0 where
+-- The worker runs the job. The entry joins those that were added, the jobs with its id are done, and this is propagated to waiting jobs.
+pub record Finishes (opening : Opening) (old : BoardState) (hand job : ℕ) (action entry : Action) (new : BoardState) : Type 0 where
   pub good : Bool
-  pub marked : Standings
+  pub marked : JobStates
   pub run : IsRunBy old.standings hand job action
   pub fits : action_id entry ≡ action_id action
   pub goodness : IsGoodness entry good
   pub joins : new.added ≡ taken lesser old.added (action_id entry) entry
   pub marks : IsMarked (action_id action) good old.standings marked
-  pub carried : Carried opening.jobs (held opening new) marked new.standings
+  pub carried : Propagated opening.jobs (held opening new) marked new.standings
 
 -- as before, but that one job stands otherwise
-abbrev pub with_stood : State → ℕ → Status → State
+abbrev pub with_stood : BoardState → ℕ → JobStatus → BoardState
 with_stood old job status = record { standings = stood old.standings job status; added = old.added }
 
 -- From old the event may come, and the board goes on to new.
-abbrev pub BoardStep : Opening → State → Event → State → Type 0
+abbrev pub BoardStep : Opening → BoardState → Event → BoardState → Type 0
 BoardStep opening old (Take hand job) new = (action : Action) × IsFree old.standings job action × (new ≡ with_stood old job (Running hand))
 BoardStep opening old (Finish hand job) new = (action : Action) × (entry : Action) × Finishes opening old hand job action entry new
 BoardStep opening old (Back hand job) new = (action : Action) × IsRunBy old.standings hand job action × (new ≡ with_stood old job Ready)
 BoardStep opening old (Idle hand) new = IsIdle old.standings.statuses × (new ≡ old)
 
 -- The events may come one after another from old, and new is the state after them.
-abbrev pub Replays : Opening → State → List Event → State → Type 0
+abbrev pub Replays : Opening → BoardState → List Event → BoardState → Type 0
 Replays opening old [] new = new ≡ old
-Replays opening old (event ∷ events) new = (mid : State) × BoardStep opening old event mid × Replays opening mid events new
+Replays opening old (event ∷ events) new = (mid : BoardState) × BoardStep opening old event mid × Replays opening mid events new
 
 -- before anything is carried on, all jobs wait, and no action is formed
-abbrev pub unopened : List Job → Standings
+abbrev pub unopened : List Job → JobStates
 unopened jobs = record { statuses = map (λ job. Waiting) jobs; actions = map (λ job. None) jobs }
 
 -- At first nothing was added, and all jobs, which wait, are carried on.
-pub record IsFirst (opening : Opening) (first : State) : Type 0 where
+pub record IsFirst (opening : Opening) (first : BoardState) : Type 0 where
   pub added : first.added ≡ empty
-  pub carried : Carried opening.jobs (held opening first) (unopened opening.jobs) first.standings
+  pub carried : Propagated opening.jobs (held opening first) (unopened opening.jobs) first.standings
 
 -- The history is legal from the opening, and leads to now.
-pub record IsHistory (opening : Opening) (history : List Event) (now : State) : Type 0 where
-  pub first : State
+pub record IsHistory (opening : Opening) (history : List Event) (now : BoardState) : Type 0 where
+  pub first : BoardState
   pub begins : IsFirst opening first
   pub replays : Replays opening first history now
 

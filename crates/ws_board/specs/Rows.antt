@@ -4,8 +4,8 @@ use Rattle.std.specs.List.{All, AllZip, sum_by, slice_get, slice_index_or, list_
 use Rattle.std.specs.Str.{bytes_eq}
 use Rattle.go_export.specs.Summaries.{Summary}
 use Rattle.ws_action.specs.Actions.{Action, action_id}
-use Rattle.ws_board.specs.declared.work.Status.{Status}
-use Rattle.ws_board.specs.declared.work.Status.TheVariants.{Waiting, Ready, Running, Blocked, Done}
+use Rattle.ws_board.specs.declared.work.JobStatus.{JobStatus}
+use Rattle.ws_board.specs.declared.work.JobStatus.TheVariants.{Waiting, Ready, Running, Blocked, Done}
 use Rattle.ws_board.specs.declared.work.Event.{Event}
 use Rattle.ws_board.specs.declared.work.Event.TheVariants.{Take, Finish, Back, Idle}
 use Rattle.ws_board.specs.declared.table.Row.{Row}
@@ -14,17 +14,17 @@ use Rattle.ws_board.specs.declared.ending.Parts.{Parts}
 use Rattle.ws_board.specs.declared.index.Ready.{Ready as AReady}
 use Rattle.ws_board.specs.declared.rows.moves.Change.{Change}
 use Rattle.ws_board.specs.declared.rows.moves.Moves.{Moves}
-use Rattle.ws_board.specs.Work.{Work, Job, Standings, Entries, Seen}
-use Rattle.ws_board.specs.Machine.{Held, HasSummary, MayForm, IsFormed, Stands, is_waiting, is_open, is_running, is_ready, is_active, has_action_id, is_back_of, IsHistory}
-use Rattle.ws_board.specs.Carrying.{IsUnder}
-use Rattle.ws_board.specs.Ends.{imports_at, work_at}
-use Rattle.ws_board.specs.Table.{row_at, standings_of}
+use Rattle.ws_board.specs.Work.{Work, Job, JobStates, Entries, Seen}
+use Rattle.ws_board.specs.Machine.{Holdings, JobHasSummary, MayForm, IsFormed, HasStatus, is_waiting, is_open, is_running, is_ready, is_active, has_action_id, is_back_of, IsHistory}
+use Rattle.ws_board.specs.Propagation.{IsUnder}
+use Rattle.ws_board.specs.Ends.{job_imports_at, work_at}
+use Rattle.ws_board.specs.Table.{row_at, job_states_of}
 
 -- what a board's value says, by its parts
 abbrev pub seen_by : List Job → List Row → Entries → Entries → List Event → ℕ → Seen
 seen_by jobs rows opened added history looks = record {
   opening = record { jobs = jobs; cache = opened };
-  state = record { standings = standings_of rows; added = added };
+  state = record { standings = job_states_of rows; added = added };
   history = history;
   looks = looks;
 }
@@ -39,14 +39,14 @@ IsLegal seen = IsHistory seen.opening seen.history seen.state
 -- ---- reads
 
 -- to tell its importers costs four reads for each, and one
-abbrev pub telling : ℕ → ℕ
-telling importers = 4 * importers + 1
+abbrev pub importer_reads : ℕ → ℕ
+importer_reads importers = 4 * importers + 1
 
 -- how many reads a job that stands so may still cost
-abbrev pub due_of : Status → ℕ → ℕ → ℕ → ℕ
-due_of Waiting left imports importers = 2 + 2 * left + 2 * imports + telling importers
-due_of Ready left imports importers = 2 + telling importers
-due_of (Running hand) left imports importers = 1 + telling importers
+abbrev pub due_of : JobStatus → ℕ → ℕ → ℕ → ℕ
+due_of Waiting left imports importers = 2 + 2 * left + 2 * imports + importer_reads importers
+due_of Ready left imports importers = 2 + importer_reads importers
+due_of (Running hand) left imports importers = 1 + importer_reads importers
 due_of Blocked left imports importers = 0
 due_of (Done good) left imports importers = 0
 
@@ -58,11 +58,11 @@ owed rows = sum_by due rows
 
 -- and those that are done or blocked, and of which no importer was told
 abbrev pub untold : List (List ℕ) → List ℕ → ℕ
-untold importers settled = sum_by (λ k. telling (length (slice_index_or importers k []))) settled
+untold importers settled = sum_by (λ k. importer_reads (length (slice_index_or importers k []))) settled
 
 -- what was read, and what a row may still cost, with what tells its importers, once its job is done or blocked
 abbrev pub charged_for : ℕ → Row → ℕ
-charged_for looks row = looks + due row + (if is_open row.status then 0 else telling row.importers)
+charged_for looks row = looks + due row + (if is_open row.status then 0 else importer_reads row.importers)
 
 -- what imports a job
 abbrev pub importers_at : Rows → ℕ → List ℕ
@@ -72,8 +72,8 @@ importers_at rows job = slice_index_or rows.importers.items job []
 abbrev pub imports_it : Rows → ℕ → ℕ → Bool
 imports_it rows job j = list_any (λ k. k == j) (importers_at rows job)
 
-abbrev pub telling_at : Rows → ℕ → ℕ
-telling_at rows job = telling (length (importers_at rows job))
+abbrev pub importer_reads_at : Rows → ℕ → ℕ
+importer_reads_at rows job = importer_reads (length (importers_at rows job))
 
 -- what was read, and what may still be
 abbrev pub charged : ℕ → Rows → Moves → ℕ
@@ -98,8 +98,8 @@ is_back (Finish hand k) = false
 is_back (Back hand k) = true
 is_back (Idle hand) = false
 
-abbrev pub IsWithin : Seen → Type 0
-IsWithin seen = IsBounded seen.looks (length seen.opening.jobs) (import_count seen.opening.jobs) (count_by is_back seen.history)
+abbrev pub IsWithinReads : Seen → Type 0
+IsWithinReads seen = IsBounded seen.looks (length seen.opening.jobs) (import_count seen.opening.jobs) (count_by is_back seen.history)
 
 -- ---- what never changes
 
@@ -108,9 +108,9 @@ pub record AreKnownBy (every : List Job) (told : List (List ℕ)) (rows : List R
   pub jobs : length rows ≡ length every
   pub lists : length told ≡ length every
   pub fits : import_count every < 2 ^ 64
-  pub imports : (k : ℕ) → (row_at rows k).imports ≡ length (imports_at every k)
+  pub imports : (k : ℕ) → (row_at rows k).imports ≡ length (job_imports_at every k)
   pub importers : (k : ℕ) → (row_at rows k).importers ≡ length (slice_index_or told k [])
-  pub named : (j k : ℕ) → Contains (imports_at every j) k → k < length every → Contains (slice_index_or told k []) j
+  pub named : (j k : ℕ) → Contains (job_imports_at every j) k → k < length every → Contains (slice_index_or told k []) j
   pub inside : (j k : ℕ) → Contains (slice_index_or told k []) j → j < length every
 
 abbrev pub AreKnown : Rows → Type 0
@@ -127,7 +127,7 @@ pub record Adds (old new : List (List ℕ)) (imports : List ℕ) (job : ℕ) : T
 -- of the first so many jobs, each is in the lists of those that it imports
 pub record AreImporters (jobs : List Job) (n : ℕ) (lists : List (List ℕ)) : Type 0 where
   pub same_length : length lists ≡ length jobs
-  pub named : (j k : ℕ) → j < n → Contains (imports_at jobs j) k → k < length jobs → Contains (slice_index_or lists k []) j
+  pub named : (j k : ℕ) → j < n → Contains (job_imports_at jobs j) k → k < length jobs → Contains (slice_index_or lists k []) j
   pub inside : (j k : ℕ) → Contains (slice_index_or lists k []) j → j < n
   pub count : sum_by (λ list. length list) lists ≤ import_count (take n jobs)
 
@@ -136,10 +136,10 @@ abbrev pub waiting_row : ℕ → ℕ → Row
 waiting_row imports importers = record { status = Waiting; action = None; left = imports; was_back = false; imports = imports; importers = importers }
 
 abbrev pub first_row : List Job → List (List ℕ) → ℕ → Row
-first_row jobs importers k = waiting_row (length (imports_at jobs k)) (length (slice_index_or importers k []))
+first_row jobs importers k = waiting_row (length (job_imports_at jobs k)) (length (slice_index_or importers k []))
 
 -- at first jobs wait, and of their imports nothing is known
-pub record AreFirst (jobs : List Job) (importers : List (List ℕ)) (n : ℕ) (rows : List Row) : Type 0 where
+pub record AreFirstRows (jobs : List Job) (importers : List (List ℕ)) (n : ℕ) (rows : List Row) : Type 0 where
   pub count : length rows ≡ n
   pub each : (k : ℕ) → k < n → row_at rows k ≡ first_row jobs importers k
 
@@ -147,12 +147,12 @@ pub record AreFirst (jobs : List Job) (importers : List (List ℕ)) (n : ℕ) (r
 
 -- the last of the imports of a job that may be open
 abbrev pub watched : List Job → List Row → ℕ → ℕ
-watched jobs rows j = slice_index_or (imports_at jobs j) ((row_at rows j).left - 1) 0
+watched jobs rows j = slice_index_or (job_imports_at jobs j) ((row_at rows j).left - 1) 0
 
 -- a job has work, and the last of its imports that may be open is open, or those that import it are about to be told
 pub record IsHeldUp (jobs : List Job) (rows : List Row) (settled : List ℕ) (j : ℕ) : Type 0 where
   pub some : 0 < (row_at rows j).left
-  pub within : (row_at rows j).left ≤ length (imports_at jobs j)
+  pub within : (row_at rows j).left ≤ length (job_imports_at jobs j)
   pub inside : watched jobs rows j < length rows
   pub work : (work : Work) × (work_at jobs j ≡ Some work)
   pub on : (is_open (row_at rows (watched jobs rows j)).status || list_any (λ k. k == watched jobs rows j) settled) ≡ true
@@ -171,14 +171,14 @@ NoMoreWaits job old before new after = (pending : ℕ → Bool) → AreWaiting o
 -- behind its first so many imports none is open
 abbrev pub IsOpenPast : List Job → List Row → ℕ → ℕ → Type 0
 IsOpenPast jobs rows job left =
-    (i : ℕ) → left ≤ i → i < length (imports_at jobs job) → is_open (row_at rows (slice_index_or (imports_at jobs job) i 0)).status ≡ false
+    (i : ℕ) → left ≤ i → i < length (job_imports_at jobs job) → is_open (row_at rows (slice_index_or (job_imports_at jobs job) i 0)).status ≡ false
 
 abbrev pub AllPast : List Job → List Row → Type 0
 AllPast jobs rows = (job : ℕ) → is_waiting (row_at rows job).status ≡ true → IsOpenPast jobs rows job (row_at rows job).left
 
 -- of no more imports than a job has it is open whether they are
 abbrev pub AreWithin : List Job → List Row → Type 0
-AreWithin jobs rows = (job : ℕ) → is_waiting (row_at rows job).status ≡ true → (row_at rows job).left ≤ length (imports_at jobs job)
+AreWithin jobs rows = (job : ℕ) → is_waiting (row_at rows job).status ≡ true → (row_at rows job).left ≤ length (job_imports_at jobs job)
 
 -- ---- what carrying on keeps
 
@@ -192,50 +192,50 @@ those_of id [] = []
 those_of id (one ∷ ready) = if bytes_eq one.id id then one.job ∷ those_of id ready else those_of id ready
 
 -- the job waited, and is ready with an action of that id
-abbrev pub is_new : List Row → List Row → List ℕ → ℕ → Bool
-is_new old new id k = is_waiting (row_at old k).status && (is_ready (row_at new k).status && has_action_id id (row_at new k).action)
+abbrev pub is_newly_ready : List Row → List Row → List ℕ → ℕ → Bool
+is_newly_ready old new id k = is_waiting (row_at old k).status && (is_ready (row_at new k).status && has_action_id id (row_at new k).action)
 
 -- the jobs that waited and became ready joined these, each once, with its id
 abbrev pub AreListed : List Row → List Row → List AReady → List AReady → Type 0
-AreListed old new before after = (k : ℕ) (id : List ℕ) → times k (those_of id after) ≡ times k (those_of id before) + (if is_new old new id k then 1 else 0)
+AreListed old new before after = (k : ℕ) (id : List ℕ) → times k (those_of id after) ≡ times k (those_of id before) + (if is_newly_ready old new id k then 1 else 0)
 
--- what may be carried on: how many imports of a job that waits may be open is known, and it has no action
-pub record AreCarriedBy (jobs : List Job) (importers : List (List ℕ)) (rows : List Row) : Type 0 where
+-- what results may be propagated to: how many imports of a job that waits may be open is known, and it has no action
+pub record ArePropagatedBy (jobs : List Job) (importers : List (List ℕ)) (rows : List Row) : Type 0 where
   pub known : AreKnownBy jobs importers rows
   pub past : AllPast jobs rows
   pub within : AreWithin jobs rows
   pub bare : (k : ℕ) → (row_at rows k).status ≡ Waiting → (row_at rows k).action ≡ None
 
-abbrev pub AreCarried : Rows → Type 0
-AreCarried rows = AreCarriedBy rows.jobs.items rows.importers.items rows.rows
+abbrev pub ArePropagated : Rows → Type 0
+ArePropagated rows = ArePropagatedBy rows.jobs.items rows.importers.items rows.rows
 
 -- a job's import with that number
 abbrev pub import_at : Rows → ℕ → ℕ → ℕ
-import_at rows job number = slice_index_or (imports_at rows.jobs.items job) number 0
+import_at rows job number = slice_index_or (job_imports_at rows.jobs.items job) number 0
 
 -- the imports of a job have these summaries, as they stand
-abbrev pub HaveSummaries : Held → Rows → ℕ → List Summary → Type 0
-HaveSummaries h rows job summaries = AllZip (HasSummary h (standings_of rows.rows)) (imports_at rows.jobs.items job) summaries
+abbrev pub HaveSummaries : Holdings → Rows → ℕ → List Summary → Type 0
+HaveSummaries h rows job summaries = AllZip (JobHasSummary h (job_states_of rows.rows)) (job_imports_at rows.jobs.items job) summaries
 
 -- these may make this action with its work, or make it
-abbrev pub MayFormAt : Held → Rows → ℕ → Work → Action → Type 0
-MayFormAt h rows job work action = MayForm h (standings_of rows.rows) work (imports_at rows.jobs.items job) action
+abbrev pub MayFormAt : Holdings → Rows → ℕ → Work → Action → Type 0
+MayFormAt h rows job work action = MayForm h (job_states_of rows.rows) work (job_imports_at rows.jobs.items job) action
 
-abbrev pub IsFormedAt : Held → Rows → ℕ → Work → Action → Type 0
-IsFormedAt h rows job work action = IsFormed h (standings_of rows.rows) work (imports_at rows.jobs.items job) action
+abbrev pub IsFormedAt : Holdings → Rows → ℕ → Work → Action → Type 0
+IsFormedAt h rows job work action = IsFormed h (job_states_of rows.rows) work (job_imports_at rows.jobs.items job) action
 
 -- the row of a job that waited, as its imports say, as they stand
-pub record Becomes (h : Held) (jobs : List Job) (rows : List Row) (job : ℕ) (row : Row) : Type 0 where
+pub record RowBecomes (h : Holdings) (jobs : List Job) (rows : List Row) (job : ℕ) (row : Row) : Type 0 where
   pub waited : is_waiting (row_at rows job).status ≡ true
   pub inside : job < length rows
   pub same : row ≡ record (row_at rows job) { status = row.status; action = row.action; left = row.left }
-  pub stands : Stands h (standings_of rows) (slice_get jobs job) row.status row.action
+  pub stands : HasStatus h (job_states_of rows) (slice_get jobs job) row.status row.action
   pub fewer : row.left ≤ (row_at rows job).left
   pub past : IsOpenPast jobs rows job row.left
-  pub on : is_waiting row.status ≡ true → (0 < row.left) × (is_open (row_at rows (slice_index_or (imports_at jobs job) (row.left - 1) 0)).status ≡ true)
+  pub on : is_waiting row.status ≡ true → (0 < row.left) × (is_open (row_at rows (slice_index_or (job_imports_at jobs job) (row.left - 1) 0)).status ≡ true)
 
 -- a job that is ready, with its id
-abbrev pub ready_of : ℕ → Status → Option Action → List AReady
+abbrev pub ready_of : ℕ → JobStatus → Option Action → List AReady
 ready_of job Ready (Some action) = record { job = job; id = action_id action } ∷ []
 ready_of job Ready None = []
 ready_of job Waiting action = []
@@ -244,21 +244,21 @@ ready_of job Blocked action = []
 ready_of job (Done good) action = []
 
 -- the job joins these, if it is done or blocked
-abbrev pub settled_with : List ℕ → ℕ → Status → List ℕ
+abbrev pub settled_with : List ℕ → ℕ → JobStatus → List ℕ
 settled_with settled job status = if is_open status then settled else (settled ++ job ∷ [])
 
 -- how many jobs are open, or are done or blocked and their importers are to be told
 abbrev pub unsettled : Rows → Moves → ℕ
-unsettled rows moves = length moves.settled.items + count_by is_open (standings_of rows.rows).statuses
+unsettled rows moves = length moves.settled.items + count_by is_open (job_states_of rows.rows).statuses
 
--- From the one to the other jobs were carried on by what is held, for so many reads beside those that were owed.
-pub record CarriesOn (h : Held) (spare : ℕ) (old new : Rows) (before after : Moves) (looks next : ℕ) : Type 0 where
+-- From the one to the other, results were propagated by what is held, with so many reads beside those that were owed.
+pub record Propagates (h : Holdings) (spare : ℕ) (old new : Rows) (before after : Moves) (looks next : ℕ) : Type 0 where
   pub jobs : new.jobs.items ≡ old.jobs.items
   pub importers : new.importers.items ≡ old.importers.items
-  pub good : AreCarried new
-  pub under : (first : Standings) → IsUnder old.jobs.items h first (standings_of old.rows) → IsUnder old.jobs.items h first (standings_of new.rows)
+  pub good : ArePropagated new
+  pub under : (first : JobStates) → IsUnder old.jobs.items h first (job_states_of old.rows) → IsUnder old.jobs.items h first (job_states_of new.rows)
   pub backs : (k : ℕ) → (row_at new.rows k).was_back ≡ (row_at old.rows k).was_back
-  pub runs : count_by is_running (standings_of new.rows).statuses ≡ count_by is_running (standings_of old.rows).statuses
+  pub runs : count_by is_running (job_states_of new.rows).statuses ≡ count_by is_running (job_states_of old.rows).statuses
   pub listed : AreListed old.rows new.rows before.ready.items after.ready.items
   pub fewer : unsettled new after ≤ unsettled old before
   pub paid : charged next new after ≤ charged looks old before + spare
@@ -279,17 +279,17 @@ pub record Marks (id : List ℕ) (good : Bool) (old new : List Row) (settled : L
   pub told : (k : ℕ) → is_active_of old id k ≡ true → list_any (λ s. s == k) settled ≡ true
 
 -- The jobs with the id are done, and from there jobs were carried on until nothing changes.
-pub record FinishesRows (h : Held) (id : List ℕ) (result : Bool) (old new : Rows) (ready : List AReady) : Type 0 where
+pub record FinishesRows (h : Holdings) (id : List ℕ) (result : Bool) (old new : Rows) (ready : List AReady) : Type 0 where
   pub marked : List Row
   pub settled : List ℕ
   pub marks : Marks id result old.rows marked settled
-  pub from : AreCarriedBy old.jobs.items old.importers.items marked
-  pub good : AreCarriedBy old.jobs.items old.importers.items new.rows
-  pub under : (first : Standings) → IsUnder old.jobs.items h first (standings_of marked) → IsUnder old.jobs.items h first (standings_of new.rows)
+  pub from : ArePropagatedBy old.jobs.items old.importers.items marked
+  pub good : ArePropagatedBy old.jobs.items old.importers.items new.rows
+  pub under : (first : JobStates) → IsUnder old.jobs.items h first (job_states_of marked) → IsUnder old.jobs.items h first (job_states_of new.rows)
   pub waits : Waits old.jobs.items new.rows [] (λ j. false)
   pub backs : (k : ℕ) → (row_at new.rows k).was_back ≡ (row_at old.rows k).was_back
-  pub runs : count_by is_running (standings_of new.rows).statuses ≡ count_by is_running (standings_of marked).statuses
-  pub listed : (k : ℕ) (i : List ℕ) → times k (those_of i ready) ≡ (if is_new marked new.rows i k then 1 else 0)
+  pub runs : count_by is_running (job_states_of new.rows).statuses ≡ count_by is_running (job_states_of marked).statuses
+  pub listed : (k : ℕ) (i : List ℕ) → times k (those_of i ready) ≡ (if is_newly_ready marked new.rows i k then 1 else 0)
 
 -- ---- putting back
 

@@ -3,10 +3,10 @@ use Rattle.std.specs.Prelude.{ℕ, Bool, true, false, List, map, Option, None, r
 use Rattle.std.specs.List.{slice_index_or}
 use Rattle.std.specs.Coded.{Coded, code_by, coded×, coded_ℕ, coded_bool, coded_option}
 use Rattle.ws_action.specs.Actions.{Action, action_code}
-use Rattle.ws_board.specs.declared.work.Status.{Status}
-use Rattle.ws_board.specs.declared.work.Status.TheVariants.{Ready, Running, Blocked}
+use Rattle.ws_board.specs.declared.work.JobStatus.{JobStatus}
+use Rattle.ws_board.specs.declared.work.JobStatus.TheVariants.{Ready, Running, Blocked}
 use Rattle.ws_board.specs.declared.table.Row.{Row}
-use Rattle.ws_board.specs.Work.{Standings, status_code}
+use Rattle.ws_board.specs.Work.{JobStates, status_code}
 
 -- where there is no job, that of one that is blocked
 abbrev pub blank : Row
@@ -15,11 +15,11 @@ blank = record { status = Blocked; action = None; left = 0; was_back = false; im
 abbrev pub row_at : List Row → ℕ → Row
 row_at rows k = slice_index_or rows k blank
 
--- where the jobs stand, by their rows
-abbrev pub standings_of : List Row → Standings
-standings_of rows = record { statuses = map (λ r. r.status) rows; actions = map (λ r. r.action) rows }
+-- the states of the jobs, by their rows
+abbrev pub job_states_of : List Row → JobStates
+job_states_of rows = record { statuses = map (λ r. r.status) rows; actions = map (λ r. r.action) rows }
 
--- a hand with that number runs the job
+-- a worker with that number runs the job
 abbrev pub given_to : ℕ → Row → Row
 given_to hand row = record row { status = Running hand }
 
@@ -29,14 +29,14 @@ given_back row = record row { status = Ready; was_back = true }
 
 -- ---- by what proofs tell these apart
 
-abbrev pub RowTold : Type 0
-RowTold = (Status × Option Action) × ((ℕ × Bool) × (ℕ × ℕ))
+abbrev pub RowProduct : Type 0
+RowProduct = (JobStatus × Option Action) × ((ℕ × Bool) × (ℕ × ℕ))
 
-abbrev pub row_in : RowTold → Row
+abbrev pub row_in : RowProduct → Row
 row_in p = record { status = p.0.0; action = p.0.1; left = p.1.0.0; was_back = p.1.0.1; imports = p.1.1.0; importers = p.1.1.1 }
 
-abbrev pub row_told : Coded RowTold
-row_told = coded× (coded× status_code (coded_option action_code)) (coded× (coded× coded_ℕ coded_bool) (coded× coded_ℕ coded_ℕ))
+abbrev pub row_product_code : Coded RowProduct
+row_product_code = coded× (coded× status_code (coded_option action_code)) (coded× (coded× coded_ℕ coded_bool) (coded× coded_ℕ coded_ℕ))
 
-abbrev pub row_code : Coded Row
-row_code = code_by RowTold row_told (λ r. ((r.status, r.action), ((r.left, r.was_back), (r.imports, r.importers)))) row_in (λ _. refl)
+abbrev pub table_row_code : Coded Row
+table_row_code = code_by RowProduct row_product_code (λ r. ((r.status, r.action), ((r.left, r.was_back), (r.imports, r.importers)))) row_in (λ _. refl)

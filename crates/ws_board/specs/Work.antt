@@ -9,8 +9,8 @@ use Rattle.go_ast.specs.Parse.{Parsed}
 use Rattle.go_export.specs.Summaries.{Summary}
 use Rattle.ws_action.specs.Actions.{Action, action_of, action_code}
 use Rattle.ws_cache.specs.Held.{id_cmp}
-use Rattle.ws_board.specs.declared.work.Status.{Status}
-use Rattle.ws_board.specs.declared.work.Status.TheVariants.{Waiting, Ready, Running, Blocked, Done}
+use Rattle.ws_board.specs.declared.work.JobStatus.{JobStatus}
+use Rattle.ws_board.specs.declared.work.JobStatus.TheVariants.{Waiting, Ready, Running, Blocked, Done}
 use Rattle.ws_board.specs.declared.work.Event.{Event}
 use Rattle.ws_board.specs.declared.work.Event.TheVariants.{Take, Finish, Back, Idle}
 
@@ -44,59 +44,59 @@ pub record Opening : Type 0 where
   pub jobs : List Job
   pub cache : Entries
 
--- where each job stands, and its action, once it is formed
-pub record Standings : Type 0 where
-  pub statuses : List Status
+-- the status of each job, and its action, once it is formed
+pub record JobStates : Type 0 where
+  pub statuses : List JobStatus
   pub actions : List (Option Action)
 
 -- the same, and the entries that were added to those of the opening
-pub record State : Type 0 where
-  pub standings : Standings
+pub record BoardState : Type 0 where
+  pub standings : JobStates
   pub added : Entries
 
 -- the opening, how things are now, what happened, the first event first, and how often rows were read
 pub record Seen : Type 0 where
   pub opening : Opening
-  pub state : State
+  pub state : BoardState
   pub history : List Event
   pub looks : ℕ
 
 -- ---- by what proofs tell these apart
 
-abbrev pub StatusTold : Type 0
-StatusTold = Option (Option ℕ) ⊎ Option Bool
+abbrev pub StatusSum : Type 0
+StatusSum = Option (Option ℕ) ⊎ Option Bool
 
-abbrev pub status_out : Status → StatusTold
+abbrev pub status_out : JobStatus → StatusSum
 status_out Waiting = inl None
 status_out Ready = inl (Some None)
 status_out (Running hand) = inl (Some (Some hand))
 status_out Blocked = inr None
 status_out (Done good) = inr (Some good)
 
-abbrev pub status_in : StatusTold → Status
+abbrev pub status_in : StatusSum → JobStatus
 status_in (inl None) = Waiting
 status_in (inl (Some None)) = Ready
 status_in (inl (Some (Some hand))) = Running hand
 status_in (inr None) = Blocked
 status_in (inr (Some good)) = Done good
 
-pub status_same : (s : Status) → status_in (status_out s) ≡ s
+pub status_same : (s : JobStatus) → status_in (status_out s) ≡ s
 status_same Waiting = refl
 status_same Ready = refl
 status_same (Running hand) = refl
 status_same Blocked = refl
 status_same (Done good) = refl
 
-abbrev pub EventTold : Type 0
-EventTold = (ℕ × ℕ) ⊎ ((ℕ × ℕ) ⊎ ((ℕ × ℕ) ⊎ ℕ))
+abbrev pub EventSum : Type 0
+EventSum = (ℕ × ℕ) ⊎ ((ℕ × ℕ) ⊎ ((ℕ × ℕ) ⊎ ℕ))
 
-abbrev pub event_out : Event → EventTold
+abbrev pub event_out : Event → EventSum
 event_out (Take hand job) = inl (hand, job)
 event_out (Finish hand job) = inr (inl (hand, job))
 event_out (Back hand job) = inr (inr (inl (hand, job)))
 event_out (Idle hand) = inr (inr (inr hand))
 
-abbrev pub event_in : EventTold → Event
+abbrev pub event_in : EventSum → Event
 event_in (inl p) = Take p.0 p.1
 event_in (inr (inl p)) = Finish p.0 p.1
 event_in (inr (inr (inl p))) = Back p.0 p.1
@@ -108,11 +108,11 @@ event_same (Finish hand job) = refl
 event_same (Back hand job) = refl
 event_same (Idle hand) = refl
 
-abbrev pub status_code : Coded Status
-status_code = code_by StatusTold (coded⊎ (coded_option (coded_option coded_ℕ)) (coded_option coded_bool)) status_out status_in status_same
+abbrev pub status_code : Coded JobStatus
+status_code = code_by StatusSum (coded⊎ (coded_option (coded_option coded_ℕ)) (coded_option coded_bool)) status_out status_in status_same
 
 abbrev pub event_code : Coded Event
-event_code = code_by EventTold (coded⊎ (coded× coded_ℕ coded_ℕ) (coded⊎ (coded× coded_ℕ coded_ℕ) (coded⊎ (coded× coded_ℕ coded_ℕ) coded_ℕ)))
+event_code = code_by EventSum (coded⊎ (coded× coded_ℕ coded_ℕ) (coded⊎ (coded× coded_ℕ coded_ℕ) (coded⊎ (coded× coded_ℕ coded_ℕ) coded_ℕ)))
     event_out event_in event_same
 
 abbrev pub parsed_code : Coded Parsed
@@ -127,8 +127,8 @@ abbrev pub job_code : Coded Job
 job_code = code_by (Option Work × List ℕ) (coded× (coded_option work_code) (coded_list coded_ℕ))
     (λ j. (j.work, j.imports)) (λ p. record { work = p.0; imports = p.1 }) (λ _. refl)
 
-abbrev pub standings_code : Coded Standings
-standings_code = code_by (List Status × List (Option Action)) (coded× (coded_list status_code) (coded_list (coded_option action_code)))
+abbrev pub job_states_code : Coded JobStates
+job_states_code = code_by (List JobStatus × List (Option Action)) (coded× (coded_list status_code) (coded_list (coded_option action_code)))
     (λ s. (s.statuses, s.actions)) (λ p. record { statuses = p.0; actions = p.1 }) (λ _. refl)
 
 abbrev pub task_code : Coded Task
@@ -138,16 +138,16 @@ task_code = code_by (ℕ × (Action × Bool)) (coded× coded_ℕ (coded× action
 abbrev pub entries_code : Coded Entries
 entries_code = code (coded_list coded_ℕ) action_code
 
-abbrev pub state_code : Coded State
-state_code = code_by (Standings × Entries) (coded× standings_code entries_code)
+abbrev pub state_code : Coded BoardState
+state_code = code_by (JobStates × Entries) (coded× job_states_code entries_code)
     (λ s. (s.standings, s.added)) (λ p. record { standings = p.0; added = p.1 }) (λ _. refl)
 
-abbrev pub SeenTold : Type 0
-SeenTold = (List Job × Entries) × (State × (List Event × ℕ))
+abbrev pub SeenProduct : Type 0
+SeenProduct = (List Job × Entries) × (BoardState × (List Event × ℕ))
 
-abbrev pub seen_in : SeenTold → Seen
+abbrev pub seen_in : SeenProduct → Seen
 seen_in p = record { opening = record { jobs = p.0.0; cache = p.0.1 }; state = p.1.0; history = p.1.1.0; looks = p.1.1.1 }
 
 abbrev pub seen_code : Coded Seen
-seen_code = code_by SeenTold (coded× (coded× (coded_list job_code) entries_code) (coded× state_code (coded× (coded_list event_code) coded_ℕ)))
+seen_code = code_by SeenProduct (coded× (coded× (coded_list job_code) entries_code) (coded× state_code (coded× (coded_list event_code) coded_ℕ)))
     (λ s. ((s.opening.jobs, s.opening.cache), (s.state, (s.history, s.looks)))) seen_in (λ _. refl)

@@ -11,11 +11,11 @@ ghost use Rattle.ws_board.specs.Machine.{is_finish, is_idle, status_at, action_a
 ghost use Rattle.ws_board.specs.Calls.{result_at};
 ghost use Rattle.ws_board.specs.Histories.{AreSettled, IsTakenOnce};
 ghost use Rattle.ws_board.specs.Rows.{seen_of};
-ghost use Rattle.ws_board.specs.Table.{standings_of};
+ghost use Rattle.ws_board.specs.Table.{job_states_of};
 
-use crate::carrying::{Holds, held};
+use crate::propagation::{Holds, held};
 use crate::table::Row;
-use crate::work::{Event, Identified, Job, Status};
+use crate::work::{Event, Identified, Job, JobStatus};
 use std::alloc::AllocError;
 use std::marker::Model;
 use std::sync::Arc;
@@ -35,17 +35,17 @@ pub(super) struct Parts {
     pub(super) looks: u128,
 }
 
-fn status_in(rows: &[Row], job: usize) -> Status
-    ensures { result ≡ status_at (standings_of rows.now).statuses job }
+fn status_in(rows: &[Row], job: usize) -> JobStatus
+    ensures { result ≡ status_at (job_states_of rows.now).statuses job }
 {
     match rows.get(job) {
         Some(row) => row.status,
-        None => Status::Blocked,
+        None => JobStatus::Blocked,
     }
 }
 
 fn action_in(rows: &[Row], job: usize) -> Option<&Identified>
-    ensures { option_copied result ≡ action_at (standings_of rows.now).actions job }
+    ensures { option_copied result ≡ action_at (job_states_of rows.now).actions job }
 {
     match rows.get(job) {
         Some(row) => row.action.as_ref(),
@@ -64,12 +64,12 @@ fn result_in(parts: &Parts, job: usize) -> Option<&Outcome>
         newest: None,
     };
     match status_in(&parts.rows, job) {
-        Status::Done(_) => {
+        JobStatus::Done(_) => {
             let action = action_in(&parts.rows, job)?;
             let entry = held(holds, &action.id())?;
             Some(entry.outcome())
         }
-        Status::Waiting | Status::Ready | Status::Running(_) | Status::Blocked => None,
+        JobStatus::Waiting | JobStatus::Ready | JobStatus::Running(_) | JobStatus::Blocked => None,
     }
 }
 
@@ -98,7 +98,7 @@ impl Stopped {
     }
 
     /// How the job with that number stands; where there is none, as one that is blocked.
-    pub fn status(&self, job: usize) -> Status
+    pub fn status(&self, job: usize) -> JobStatus
         ensures { result ≡ status_at self.now.state.standings.statuses job }
     {
         status_in(&self.parts.rows, job)
@@ -122,7 +122,7 @@ impl Stopped {
     }
 }
 
-/// A board in which a hand was told that nothing is left to do, and whose history is legal from the
+/// A board in which a worker was told that nothing is left to do, and whose history is legal from the
 /// opening.
 #[derive(Drop)]
 pub struct Built {

@@ -7,14 +7,14 @@ ghost use Rattle.std.specs.List.{All, list_any, slice_index_or};
 ghost use Rattle.std.specs.Str.{bytes_eq};
 ghost use Rattle.ws_action.specs.Actions.{action_id};
 ghost use Rattle.ws_board.specs.Rows.{those_of};
-ghost use Rattle.ws_board.specs.Indexes.{id_in, run_with, jobs_by, run_by, jobs_in, run_in, is_free_in, is_released, Changes, SetsRun, JoinsIn, BeginsIn, MarksFree, IsSameBut};
+ghost use Rattle.ws_board.specs.Indexes.{id_in, run_with, jobs_by, run_by, jobs_in, run_in, is_free_in, is_released, ChangesIndex, SetsRun, JoinsIn, BeginsIn, MarksFree, IsSameBut};
 
 use crate::flags::Flags;
-use crate::work::{Hand, Task};
+use crate::work::{Task, WorkerId};
 use std::alloc::{AllocError, Global};
 use std::collections::BTreeMap;
 
-/// The job of an id that a hand runs.
+/// The job of an id that a worker runs.
 #[derive(Drop)]
 pub(super) struct Run {
     hand: u64,
@@ -35,7 +35,7 @@ pub(super) struct Ready {
     pub(super) id: [u8; 32],
 }
 
-/// Jobs by their ids, which jobs may be given: those that are ready, and whose id no hand runs; and
+/// Jobs by their ids, which jobs may be given: those that are ready, and whose id no worker runs; and
 /// how many jobs run.
 #[derive(Drop)]
 pub(super) struct Index {
@@ -165,8 +165,8 @@ impl Index {
         jobs_of(&self.ids, id)
     }
 
-    /// Whether the hand runs the task's job, by an action with the id of the task's.
-    pub(super) fn runs(&self, hand: &Hand, task: &Task) -> bool
+    /// Whether the worker runs the task's job, by an action with the id of the task's.
+    pub(super) fn runs(&self, hand: &WorkerId, task: &Task) -> bool
         ensures { IsTrue result ↔ (run_in self.now (action_id task.now.action) ≡ Some (run_with hand.now task.now.job)) }
     {
         let Some(its) = of_id(&self.ids, &task.id()) else {
@@ -178,7 +178,7 @@ impl Index {
         }
     }
 
-    /// The hand runs the job, which is among those of the id.
+    /// The worker runs the job, which is among those of the id.
     pub(super) fn run(&mut self, hand: u64, job: usize, id: &[u8; 32])
         requires kept { id_in self.old.ids.entries id.now ≢ None }
         requires inside { All (λ j. j < length self.old.free) (jobs_in self.old id.now) }
@@ -193,7 +193,7 @@ impl Index {
         self.running += 1;
     }
 
-    /// No hand runs the id any more.
+    /// No worker runs the id any more.
     pub(super) fn stop(&mut self, id: &[u8; 32])
         requires kept { id_in self.old.ids.entries id.now ≢ None }
         requires inside { All (λ j. j < length self.old.free) (jobs_in self.old id.now) }
@@ -208,10 +208,10 @@ impl Index {
         self.running -= 1;
     }
 
-    /// The id, which a hand ran, is done: no job has it that is ready or runs.
+    /// The id, which a worker ran, is done: no job has it that is ready or runs.
     pub(super) fn end(&mut self, id: &[u8; 32])
         requires some { 0 < self.old.running }
-        ensures changes { Changes self.old self.new id.now [] None }
+        ensures changes { ChangesIndex self.old self.new id.now [] None }
         ensures free { self.new.free ≡ self.old.free }
         ensures running { self.new.running + 1 ≡ self.old.running }
     {
@@ -277,7 +277,7 @@ impl Index {
         }
     }
 
-    /// These, which joined, may be given where no hand runs their ids.
+    /// These, which joined, may be given where no worker runs their ids.
     pub(super) fn release(&mut self, ready: &[Ready])
         requires { All (λ one. one.job < length self.old.free) ready.now }
         ensures ids { self.new.ids ≡ self.old.ids }

@@ -11,26 +11,26 @@ ghost use Rattle.ws_cache.specs.Joined.{lesser};
 ghost use Rattle.ws_board.specs.Work.{Job as AJob};
 ghost use Rattle.ws_board.specs.declared.work.Event.TheVariants as event;
 ghost use Rattle.ws_board.specs.Machine.{is_open, is_idle, IsRunWith, IsHistory};
-ghost use Rattle.ws_board.specs.Calls.{IsFresh, Happens, TakeStep, IsLeast};
-ghost use Rattle.ws_board.specs.Ends.{AreFinished, AddsOwn, Comes, GivesOwn, ComesToEnds, ShowsEnds, IsRanked, AreEnds, End};
+ghost use Rattle.ws_board.specs.Calls.{IsFresh, Happens, TakeStep, IsLeastFree};
+ghost use Rattle.ws_board.specs.Ends.{AreFinished, AddsOwn, MayBeResult, GivesOwn, HasResults, ShowsEnds, IsRanked, AreEnds, End};
 ghost use Rattle.ws_board.specs.Histories.{RunsAlone};
-ghost use Rattle.ws_board.specs.Rows.{seen_of, IsWithin};
+ghost use Rattle.ws_board.specs.Rows.{seen_of, IsWithinReads};
 
-use carrying::{Holds, carry_all, is_good};
 use ending::Parts;
 pub use ending::{Built, Stopped};
 use index::Index;
+use propagation::{Holds, carry_all, is_good};
 use rows::{Moves, Rows};
 use std::alloc::{AllocError, Global};
 use std::marker::Model;
 use steps::{finish_rows, given};
-pub use work::{Event, Hand, Job, Status, Taken, Task, Work};
+pub use work::{Event, Job, JobStatus, Taken, Task, Work, WorkerId};
 pub use ws_cache::{Cache, Entry};
 
-mod carrying;
 mod ending;
 mod flags;
 mod index;
+mod propagation;
 mod rows;
 mod steps;
 mod table;
@@ -55,8 +55,8 @@ impl Model for Board {
     ghost use Rattle.std.specs.List.{count_by};
     ghost use Rattle.ws_board.specs.Work as work;
     ghost use Rattle.ws_board.specs.Machine as machine;
-    ghost use Rattle.ws_board.specs.Rows.{seen_by, import_count, is_back, AreCarried, Waits, KnowsBacks, IsPaid, IsLegal};
-    ghost use Rattle.ws_board.specs.Table.{standings_of};
+    ghost use Rattle.ws_board.specs.Rows.{seen_by, import_count, is_back, ArePropagated, Waits, KnowsBacks, IsPaid, IsLegal};
+    ghost use Rattle.ws_board.specs.Table.{job_states_of};
     ghost use Rattle.ws_board.specs.Indexes.{Agrees};
 
     ghost Value = { work.Seen };
@@ -66,10 +66,10 @@ impl Model for Board {
     ghost view = { λ a. seen_by a.rows.jobs.items a.rows.rows a.opened a.added a.history.items a.looks };
 
     ghost invariant = { λ a. IsLegal (seen_by a.rows.jobs.items a.rows.rows a.opened a.added a.history.items a.looks)
-        × AreCarried a.rows × Waits a.rows.jobs.items a.rows.rows [] (λ _. false)
+        × ArePropagated a.rows × Waits a.rows.jobs.items a.rows.rows [] (λ _. false)
         × Agrees a.rows.rows a.index × KnowsBacks a.rows.rows a.history.items
         × IsPaid a.looks a.rows.rows (import_count a.rows.jobs.items) (count_by is_back a.history.items)
-        × (vec_len a.history + count_by machine.is_running (standings_of a.rows.rows).statuses ≤ vec_capacity a.history) };
+        × (vec_len a.history + count_by machine.is_running (job_states_of a.rows.rows).statuses ≤ vec_capacity a.history) };
 }
 
 impl Board {
@@ -79,7 +79,7 @@ impl Board {
         ensures opening { IfOk result (λ board. board.opening ≡ record { jobs = jobs.items; cache = cache }) }
         ensures fresh { IfOk result (λ board. IsFresh board) }
         ensures shows { IfOk result (λ board. ShowsEnds board) }
-        ensures looks { IfOk result (λ board. IsWithin board) }
+        ensures looks { IfOk result (λ board. IsWithinReads board) }
     {
         let added = Cache::new(alloc);
         let mut index = Index::new(alloc, jobs.len())?;
@@ -108,21 +108,21 @@ impl Board {
     /// How often the rows of jobs and of imports were read, by the opening and by all calls of
     /// `take`, `finish` and `back` that weren't refused: at any moment no more than so many for each
     /// job, import and back.
-    pub fn looks(&self) -> u128
+    pub fn row_reads(&self) -> u128
         ensures is { result ≡ self.now.looks }
-        ensures within { IsWithin self.now }
+        ensures within { IsWithinReads self.now }
     {
         self.looks
     }
 
-    /// Gives the hand the first job that is ready and whose id no hand runs, and says whether that
+    /// Gives the worker the first job that is ready and whose id no worker runs, and says whether that
     /// job was given back before. Where there is none, it answers `Later` if any job runs, which is
     /// no event, and else `Idle`. An `Err`, for want of memory, changes nothing.
-    pub fn take(&mut self, hand: &Hand) -> Result<Taken, AllocError>
+    pub fn take(&mut self, hand: &WorkerId) -> Result<Taken, AllocError>
         ensures step { IfOk result (λ taken. TakeStep hand.now taken self.old self.new) }
-        ensures least { IfOk result (λ taken. IsLeast self.old.state.standings taken) }
+        ensures least { IfOk result (λ taken. IsLeastFree self.old.state.standings taken) }
         ensures own { IfOk result (λ taken. GivesOwn self.old taken) }
-        ensures looks { IsWithin self.new }
+        ensures looks { IsWithinReads self.new }
         ensures err { OnErr result (self.new ≡ self.old) }
     {
         let Some(k) = self.index.first_free() else {
@@ -149,9 +149,9 @@ impl Board {
         }
     }
 
-    /// Whether the hand runs the task's job, by an action with the id of the task's. No text is looked
+    /// Whether the worker runs the task's job, by an action with the id of the task's. No text is looked
     /// at.
-    pub fn runs(&self, hand: &Hand, task: &Task) -> bool
+    pub fn runs(&self, hand: &WorkerId, task: &Task) -> bool
         ensures is { IsTrue result ↔ IsRunWith self.now.state.standings hand.now task.now.job (action_id task.now.action) }
         ensures alone { RunsAlone self.now.state.standings }
     {
@@ -161,13 +161,13 @@ impl Board {
     /// The task is done: its entry is added, all jobs with its id that are ready or run are done,
     /// and waiting jobs are carried on. An `Err`, for want of memory, gives both back and changes
     /// nothing.
-    pub fn finish(&mut self, hand: &Hand, task: Task, entry: Entry) -> Result<(), (Task, Entry)>
+    pub fn finish(&mut self, hand: &WorkerId, task: Task, entry: Entry) -> Result<(), (Task, Entry)>
         requires runs { IsRunWith self.old.state.standings hand.now task.job (action_id task.action) }
         requires fits { action_id entry ≡ action_id task.action }
         ensures step { OnOk result (Happens self.old (event.Finish hand.now task.job) self.new) }
         ensures added { OnOk result (self.new.state.added ≡ taken lesser self.old.state.added (action_id entry) entry) }
-        ensures own { OnOk result (Comes self.old.opening entry → AddsOwn self.old → AddsOwn self.new) }
-        ensures looks { IsWithin self.new }
+        ensures own { OnOk result (MayBeResult self.old.opening entry → AddsOwn self.old → AddsOwn self.new) }
+        ensures looks { IsWithinReads self.new }
         ensures back { IfErr result (λ back. (back.0 ≡ task) × (back.1 ≡ entry)) }
         ensures err { OnErr result (self.new ≡ self.old) }
     {
@@ -207,10 +207,10 @@ impl Board {
     }
 
     /// The task is given back: its job is ready again.
-    pub fn back(&mut self, hand: &Hand, task: Task)
+    pub fn back(&mut self, hand: &WorkerId, task: Task)
         requires { IsRunWith self.old.state.standings hand.now task.job (action_id task.action) }
         ensures step { Happens self.old (event.Back hand.now task.job) self.new }
-        ensures looks { IsWithin self.new }
+        ensures looks { IsWithinReads self.new }
     {
         self.index.stop(&task.id());
         let job = task.spend();
@@ -218,9 +218,9 @@ impl Board {
         self.history.push_reserved(Event::Back(hand.number(), job));
     }
 
-    /// The task is given back, if the hand runs it, and the answer is whether it does. Where it
+    /// The task is given back, if the worker runs it, and the answer is whether it does. Where it
     /// doesn't, the task is spent and nothing changes.
-    pub fn try_back(&mut self, hand: &Hand, task: Task) -> bool
+    pub fn try_back(&mut self, hand: &WorkerId, task: Task) -> bool
         ensures is { IsTrue result ↔ IsRunWith self.old.state.standings hand.now task.job (action_id task.action) }
         ensures back { OnTrue result (Happens self.old (event.Back hand.now task.job) self.new) }
         ensures still { OnFalse result (self.new ≡ self.old) }
@@ -240,7 +240,7 @@ impl Board {
         self.rows.open()
     }
 
-    /// Whether a hand was told that nothing is left to do.
+    /// Whether a worker was told that nothing is left to do.
     pub fn has_idled(&self) -> bool
         ensures { result ≡ list_any is_idle self.now.history }
     {
@@ -250,7 +250,7 @@ impl Board {
         })
     }
 
-    /// How many times a hand was told that nothing is left to do.
+    /// How many times a worker was told that nothing is left to do.
     pub fn idles(&self) -> usize
         ensures { result ≡ count_by is_idle self.now.history }
     {
@@ -291,8 +291,8 @@ impl Board {
         requires idled { list_any is_idle self.history ≡ true }
         ensures same { result ≡ self }
         ensures finished { (entries : List AnAction) × AreFinished self entries }
-        ensures ends { (N : List AnAction) → CacheStandsFor self.state.added N → ComesToEnds self N }
-        ensures own { AddsOwn self → ComesToEnds self [] }
+        ensures ends { (N : List AnAction) → CacheStandsFor self.state.added N → HasResults self N }
+        ensures own { AddsOwn self → HasResults self [] }
     {
         Built::new(self.into_parts())
     }

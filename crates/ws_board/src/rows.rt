@@ -2,12 +2,12 @@
 ghost use Rattle.std.specs.Prelude.{◌≡◌, false, option_copied, ◌+◌, ◌≤◌, ◌<◌, ◌^◌, ℕ, None, [], length, replicate, IfOk, IfSome, IfNone, OnOk, slice_set, ◌++◌, ◌∷◌};
 ghost use Rattle.std.specs.List.{sum_by, count_by, slice_get, slice_index_or};
 ghost use Rattle.ws_board.specs.Machine.{is_open};
-ghost use Rattle.ws_board.specs.Ends.{imports_at, work_at};
-ghost use Rattle.ws_board.specs.Rows.{waiting_row, AreKnown, AreFirst, Adds, AreImporters, import_count};
-ghost use Rattle.ws_board.specs.Table.{row_at, standings_of, given_to, given_back};
+ghost use Rattle.ws_board.specs.Ends.{job_imports_at, work_at};
+ghost use Rattle.ws_board.specs.Rows.{waiting_row, AreKnown, AreFirstRows, Adds, AreImporters, import_count};
+ghost use Rattle.ws_board.specs.Table.{row_at, job_states_of, given_to, given_back};
 
 use crate::table::{Row, Table};
-use crate::work::{Job, Status, Work};
+use crate::work::{Job, JobStatus, Work};
 pub(super) use moves::Moves;
 use std::alloc::{AllocError, Global};
 use std::marker::Model;
@@ -71,7 +71,7 @@ pub(super) struct Found<'a> {
 }
 
 fn imports_of(jobs: &[Job], k: usize) -> &[usize]
-    ensures { result.now ≡ imports_at jobs.now k }
+    ensures { result.now ≡ job_imports_at jobs.now k }
 {
     match jobs.get(k) {
         Some(job) => job.imports(),
@@ -151,7 +151,7 @@ fn waiting_row(imports: usize, importers: usize) -> Row
     ensures { result ≡ waiting_row imports importers }
 {
     Row {
-        status: Status::Waiting,
+        status: JobStatus::Waiting,
         action: None,
         left: imports,
         was_back: false,
@@ -161,7 +161,7 @@ fn waiting_row(imports: usize, importers: usize) -> Row
 }
 
 fn waiting_rows(alloc: Global, jobs: &[Job], importers: &[Numbers]) -> Result<Vec<Row>, AllocError>
-    ensures { IfOk result (λ rows. AreFirst jobs.now importers.now (length jobs.now) rows.items) }
+    ensures { IfOk result (λ rows. AreFirstRows jobs.now importers.now (length jobs.now) rows.items) }
 {
     let mut rows = Vec::with_capacity(alloc, jobs.len())?;
     for k in 0..jobs.len() {
@@ -185,7 +185,7 @@ impl Rows {
     pub(super) fn new(alloc: Global, jobs: Vec<Job>) -> Result<Rows, AllocError>
         ensures jobs { IfOk result (λ rows. rows.jobs.items ≡ jobs.items) }
         ensures known { IfOk result (λ rows. AreKnown rows) }
-        ensures first { IfOk result (λ rows. AreFirst rows.jobs.items rows.importers.items (length rows.jobs.items) rows.rows) }
+        ensures first { IfOk result (λ rows. AreFirstRows rows.jobs.items rows.importers.items (length rows.jobs.items) rows.rows) }
         ensures count { IfOk result (λ rows. sum_by (λ list. length list) rows.importers.items ≤ import_count jobs.items) }
     {
         count_imports(&jobs)?;
@@ -226,7 +226,7 @@ impl Rows {
     /// Reads the row of a job's import, if it has one with that number: the number of the job.
     pub(super) fn import(&self, looks: &mut u128, k: usize, number: usize) -> Option<usize>
         requires counted { looks.old + 1 < 2 ^ 128 }
-        ensures is { result ≡ slice_get (imports_at self.now.jobs.items k) number }
+        ensures is { result ≡ slice_get (job_imports_at self.now.jobs.items k) number }
         ensures one { looks.new ≡ looks.old + 1 }
     {
         count_read(looks);
@@ -248,7 +248,7 @@ impl Rows {
 
     /// How many jobs are neither done nor blocked, which is no read of a row.
     pub(super) fn open(&self) -> usize
-        ensures { result ≡ count_by is_open (standings_of self.now.rows).statuses }
+        ensures { result ≡ count_by is_open (job_states_of self.now.rows).statuses }
     {
         self.rows.open()
     }
@@ -265,7 +265,7 @@ impl Rows {
         self.rows.put(k, row)
     }
 
-    /// The job is run by the hand with that number.
+    /// The job is run by the worker with that number.
     pub(super) fn run(&mut self, k: usize, hand: u64)
         requires { k < length self.old.rows }
         ensures rows { self.new.rows ≡ slice_set self.old.rows k (given_to hand (row_at self.old.rows k)) }

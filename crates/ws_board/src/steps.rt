@@ -1,13 +1,13 @@
 //! What a take and a finish read and write of rows and index.
 ghost use Rattle.std.specs.Prelude.{◌≡◌, ◌≤◌, ◌<◌, ◌+◌, ◌^◌, ◌++◌, if◌then◌else◌, ℕ, List, [], length, false, Some, IfOk, OnOk, OnErr};
 ghost use Rattle.ws_action.specs.Actions.{Action as AnAction};
-ghost use Rattle.ws_board.specs.Carrying.{held_by};
-ghost use Rattle.ws_board.specs.Rows.{times, is_active_of, those_of, owed, AreCarried, Waits, IsUndone, FinishesRows};
+ghost use Rattle.ws_board.specs.Propagation.{held_by};
+ghost use Rattle.ws_board.specs.Rows.{times, is_active_of, those_of, owed, ArePropagated, Waits, IsUndone, FinishesRows};
 ghost use Rattle.ws_board.specs.Table.{row_at};
 ghost use Rattle.ws_board.specs.Indexes.{jobs_in, IsSameBut};
 
-use crate::carrying::{Holds, carry, mark};
 use crate::index::Index;
+use crate::propagation::{Holds, mark, propagate};
 use crate::rows::{Moves, Rows};
 use crate::work::Task;
 use std::alloc::{AllocError, Global};
@@ -42,7 +42,7 @@ fn carried(
     jobs: &[usize],
     good: bool,
 ) -> Result<(), AllocError>
-    requires good { AreCarried rows.old }
+    requires good { ArePropagated rows.old }
     requires waits { Waits rows.old.jobs.items rows.old.rows [] (λ j. false) }
     requires jobs { (k : ℕ) → times k jobs.now ≡ (if is_active_of rows.old.rows id.now k then 1 else 0) }
     requires none { (moves.old.settled.items ≡ []) × (moves.old.ready.items ≡ []) }
@@ -53,7 +53,7 @@ fn carried(
     ensures more { OnOk result (looks.old ≤ looks.new) }
 {
     mark(rows, looks, moves, id, jobs, good)?;
-    carry(alloc, holds, rows, looks, moves)?;
+    propagate(alloc, holds, rows, looks, moves)?;
     Ok(())
 }
 
@@ -69,7 +69,7 @@ pub(super) fn finish_rows(
     id: &[u8; 32],
     good: bool,
 ) -> Result<(), AllocError>
-    requires good { AreCarried rows.old }
+    requires good { ArePropagated rows.old }
     requires waits { Waits rows.old.jobs.items rows.old.rows [] (λ j. false) }
     requires jobs { (k : ℕ) → times k (jobs_in index.old id.now) ≡ (if is_active_of rows.old.rows id.now k then 1 else 0) }
     requires none { (moves.old.settled.items ≡ []) × (moves.old.ready.items ≡ []) }

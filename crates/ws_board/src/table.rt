@@ -2,16 +2,16 @@
 ghost use Rattle.std.specs.Prelude.{◌≡◌, ◌<◌, ◌+◌, ◌^◌, if◌then◌else◌, true, length, option_copied, slice_set};
 ghost use Rattle.std.specs.List.{count_by, slice_get};
 ghost use Rattle.ws_board.specs.Machine.{is_open};
-ghost use Rattle.ws_board.specs.Table.{row_at, standings_of, given_to, given_back};
+ghost use Rattle.ws_board.specs.Table.{row_at, job_states_of, given_to, given_back};
 
-use crate::work::{Identified, Status};
+use crate::work::{Identified, JobStatus};
 use std::marker::Model;
 use std::mem;
 
 /// Where a job stands.
 #[derive(Drop)]
 pub(super) struct Row {
-    pub(super) status: Status,
+    pub(super) status: JobStatus,
     /// Its action, once it is formed.
     pub(super) action: Option<Identified>,
     /// How many of its imports, the first ones, may be open: those behind them are done or blocked.
@@ -36,15 +36,15 @@ impl Model for Table {
     ghost use Rattle.std.specs.List.{count_by};
     ghost use Rattle.ws_board.specs.declared.table.Row.{Row as ARow};
     ghost use Rattle.ws_board.specs.Machine.{is_open};
-    ghost use Rattle.ws_board.specs.Table.{row_code, standings_of};
+    ghost use Rattle.ws_board.specs.Table.{table_row_code, job_states_of};
 
     ghost Value = { List ARow };
 
-    ghost coded = { coded_list row_code };
+    ghost coded = { coded_list table_row_code };
 
     ghost view = { λ a. a.rows.items };
 
-    ghost invariant = { λ a. a.opens ≡ count_by is_open (standings_of a.rows.items).statuses };
+    ghost invariant = { λ a. a.opens ≡ count_by is_open (job_states_of a.rows.items).statuses };
 }
 
 // What becomes of a count of open jobs, where one that was open or wasn't now is or isn't.
@@ -74,7 +74,7 @@ impl Table {
 
     /// How many jobs are neither done nor blocked.
     pub(super) fn open(&self) -> usize
-        ensures { result ≡ count_by is_open (standings_of self.now).statuses }
+        ensures { result ≡ count_by is_open (job_states_of self.now).statuses }
     {
         self.opens
     }
@@ -87,14 +87,14 @@ impl Table {
     }
 
     // How many jobs are open, once this one stands so.
-    fn open_with(&self, k: usize, status: Status) -> usize
+    fn open_with(&self, k: usize, status: JobStatus) -> usize
         requires { k < length self.now }
-        ensures { result ≡ count_by is_open (slice_set (standings_of self.now).statuses k status) }
+        ensures { result ≡ count_by is_open (slice_set (job_states_of self.now).statuses k status) }
     {
         recounted(self.opens, self.rows[k].status.is_open(), status.is_open())
     }
 
-    /// Writes the row of a job, and hands out what stood there.
+    /// Writes the row of a job, and returns what stood there.
     pub(super) fn put(&mut self, k: usize, row: Row) -> Row
         requires { k < length self.old }
         ensures rows { self.new ≡ slice_set self.old k row }
@@ -104,12 +104,12 @@ impl Table {
         mem::replace(&mut self.rows[k], row)
     }
 
-    /// The job is run by the hand with that number.
+    /// The job is run by the worker with that number.
     pub(super) fn run(&mut self, k: usize, hand: u64)
         requires { k < length self.old }
         ensures { self.new ≡ slice_set self.old k (given_to hand (row_at self.old k)) }
     {
-        let status = Status::Running(hand);
+        let status = JobStatus::Running(hand);
         self.opens = self.open_with(k, status);
         self.rows[k].status = status;
     }
@@ -119,9 +119,9 @@ impl Table {
         requires { k < length self.old }
         ensures { self.new ≡ slice_set self.old k (given_back (row_at self.old k)) }
     {
-        self.opens = self.open_with(k, Status::Ready);
+        self.opens = self.open_with(k, JobStatus::Ready);
         let row = &mut self.rows[k];
-        row.status = Status::Ready;
+        row.status = JobStatus::Ready;
         row.was_back = true;
     }
 

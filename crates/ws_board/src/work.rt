@@ -1,4 +1,4 @@
-//! What a board works with: jobs, hands, tasks and events.
+//! What a board works with: jobs, workers, tasks and events.
 ghost use Rattle.std.specs.Prelude.{◌≡◌, ℕ, IfOk, IfSome, IfNone, IsTrue, ◌↔◌, map, option_copied, string_bytes};
 ghost use Rattle.std.specs.Arc.{arc_value};
 ghost use Rattle.ws_action.specs.Actions.{action_id, MakeAction, IsSized};
@@ -13,13 +13,13 @@ use std::sync::Arc;
 use ws_action::{Action, Files};
 use ws_cache::Entry;
 
-/// Where a job stands.
+/// The status of a job.
 #[derive(Clone, Copy, PartialEq, Eq, Debug)]
-pub enum Status {
+pub enum JobStatus {
     /// Some import is neither done nor blocked.
     Waiting,
     Ready,
-    /// The hand with that number runs it.
+    /// The worker with that number runs it.
     Running(u64),
     /// Its imports are done or blocked, and it has no action: an import isn't good, or there is
     /// nothing to compile, or what is held for its imports doesn't fit its files.
@@ -28,14 +28,15 @@ pub enum Status {
     Done(bool),
 }
 
-impl Status {
+impl JobStatus {
     /// Whether the job waits.
     pub fn is_waiting(self) -> bool
         ensures { result ≡ is_waiting self }
     {
         match self {
-            Status::Waiting => true,
-            Status::Ready | Status::Running(_) | Status::Blocked | Status::Done(_) => false,
+            JobStatus::Waiting => true,
+            JobStatus::Ready | JobStatus::Running(_) | JobStatus::Blocked | JobStatus::Done(_) =>
+                false,
         }
     }
 
@@ -44,18 +45,20 @@ impl Status {
         ensures { result ≡ is_ready self }
     {
         match self {
-            Status::Ready => true,
-            Status::Waiting | Status::Running(_) | Status::Blocked | Status::Done(_) => false,
+            JobStatus::Ready => true,
+            JobStatus::Waiting | JobStatus::Running(_) | JobStatus::Blocked | JobStatus::Done(_) =>
+                false,
         }
     }
 
-    /// Whether a hand runs the job.
+    /// Whether a worker runs the job.
     pub fn is_running(self) -> bool
         ensures { result ≡ is_running self }
     {
         match self {
-            Status::Running(_) => true,
-            Status::Waiting | Status::Ready | Status::Blocked | Status::Done(_) => false,
+            JobStatus::Running(_) => true,
+            JobStatus::Waiting | JobStatus::Ready | JobStatus::Blocked | JobStatus::Done(_) =>
+                false,
         }
     }
 
@@ -64,8 +67,8 @@ impl Status {
         ensures { result ≡ is_active self }
     {
         match self {
-            Status::Ready | Status::Running(_) => true,
-            Status::Waiting | Status::Blocked | Status::Done(_) => false,
+            JobStatus::Ready | JobStatus::Running(_) => true,
+            JobStatus::Waiting | JobStatus::Blocked | JobStatus::Done(_) => false,
         }
     }
 
@@ -74,13 +77,13 @@ impl Status {
         ensures { result ≡ is_open self }
     {
         match self {
-            Status::Waiting | Status::Ready | Status::Running(_) => true,
-            Status::Blocked | Status::Done(_) => false,
+            JobStatus::Waiting | JobStatus::Ready | JobStatus::Running(_) => true,
+            JobStatus::Blocked | JobStatus::Done(_) => false,
         }
     }
 }
 
-/// What happened on a board: by the hand with that number, and to the job with that number.
+/// What happened on a board: by the worker with that number, and to the job with that number.
 #[derive(Clone, Copy, PartialEq, Eq, Debug)]
 pub enum Event {
     Take(u64, usize),
@@ -89,13 +92,13 @@ pub enum Event {
     Idle(u64),
 }
 
-/// Who runs jobs.
+/// A worker, which runs jobs, by its number.
 #[derive(Drop)]
-pub struct Hand {
+pub struct WorkerId {
     number: u64,
 }
 
-impl Model for Hand {
+impl Model for WorkerId {
     ghost use Rattle.std.specs.Prelude.{ℕ};
     ghost use Rattle.std.specs.Coded.{coded_ℕ};
 
@@ -106,15 +109,15 @@ impl Model for Hand {
     ghost view = { λ a. a.number };
 }
 
-impl Hand {
-    /// The hand with that number.
-    pub fn new(number: u64) -> Hand
+impl WorkerId {
+    /// The worker with that number.
+    pub fn new(number: u64) -> WorkerId
         ensures { result ≡ number }
     {
-        Hand { number }
+        WorkerId { number }
     }
 
-    /// The hand's number.
+    /// The worker's number.
     pub fn number(&self) -> u64
         ensures { result ≡ self.now }
     {
@@ -379,7 +382,7 @@ impl Task {
     }
 }
 
-/// What a hand that asks for a job is told.
+/// The answer to a worker that asks for a job.
 pub enum Taken {
     /// To run that job.
     Job(Task),

@@ -14,7 +14,7 @@ use Rattle.go_check.specs.Names.{importable_by}
 use Rattle.go_export.specs.Summaries.{Summary, summary_of}
 use Rattle.go_export.specs.Writable.{IsWritten}
 use Rattle.go_check.proofs.One as front
-use Rattle.ws_action.specs.Actions.{Action, action_of, parsed_of, source_of, HaveEdition}
+use Rattle.ws_action.specs.Actions.{Action, action_of, parsed_of, source_with_name, HaveEdition}
 use Rattle.ws_action.proofs.Imports.{same_imports, parsed_again}
 use Rattle.ws_cache.specs.Compiles.{AreGood, AreCircular, AreFaulty, Compiled, Good, Faulty, IsResult, Compiles}
 
@@ -87,5 +87,5 @@ pub held_is_result : (edition : Edition) (path : List ℕ) (files : List Parsed)
     Compiles (action_of edition path files summaries) a → IsResult path files (map importable_by summaries) b → a ≡ b
 held_is_result edition path files summaries have written a b g h =
     let same = same_imports edition g.summaries summaries (g.imports).written written (g.imports).alike have.of_summaries (g.imports).texts in
-    let its = moved path (map (parsed_of edition) (map source_of files)) g.summaries summaries a same g.is in
+    let its = moved path (map (parsed_of edition) (map source_with_name files)) g.summaries summaries a same g.is in
     one_result path files (map importable_by summaries) a b (subst (λ (fs : List Parsed). IsResult path fs (map importable_by summaries) a) (parsed_again edition files have.of_files) its) h

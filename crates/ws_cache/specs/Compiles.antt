@@ -14,7 +14,7 @@ use Rattle.go_gen.specs.Translation.{object_of}
 use Rattle.go_check.specs.Names.{importable_by}
 use Rattle.go_export.specs.Summaries.{Summary, summary_of}
 use Rattle.go_export.specs.Writable.{IsWritten}
-use Rattle.ws_action.specs.Actions.{Action, parsed_of, import_of}
+use Rattle.ws_action.specs.Actions.{Action, parsed_of, named_summary}
 use Rattle.ws_cache.specs.declared.Outcome.{Outcome}
 use Rattle.ws_cache.specs.declared.Outcome.TheVariants as outcome
 
@@ -55,7 +55,7 @@ IsResult path files imports (Faulty fault) = AreFaulty path files imports fault
 
 -- the texts of the action's imports are those of these summaries of its edition, which their texts tell
 pub record AreImportsOf (action : Action) (summaries : List Summary) : Type 0 where
-  pub texts : map import_of summaries ≡ action.imports
+  pub texts : map named_summary summaries ≡ action.imports
   pub written : All IsWritten summaries
   pub alike : All (λ summary. summary.edition ≡ action.edition) summaries
 

@@ -4,7 +4,7 @@ use Rattle.std.specs.List.{Contains}
 use Rattle.std.specs.declared.cmp.Ordering.{Ordering}
 use Rattle.std.specs.Ordering.{is_gt}
 use Rattle.std.specs.FinMap.{FinMap, get}
-use Rattle.ws_action.specs.Actions.{Action, action_id, action_cmp, bytes_cmp}
+use Rattle.ws_action.specs.Actions.{Action, action_id, action_cmp, text_cmp}
 
 -- of the actions of E that have the id, a is the least
 pub record IsLeast (E : List Action) (id : List ℕ) (a : Action) : Type 0 where
@@ -18,7 +18,7 @@ IsHeld E id held = MatchOption held ((a : Action) → Contains E a → action_id
 
 -- ids by bytes
 abbrev pub id_cmp : List ℕ → List ℕ → Ordering
-id_cmp = bytes_cmp
+id_cmp = text_cmp
 
 -- the cache gives what is held of E, for each id
 unfoldable pub CacheStandsFor : FinMap id_cmp Action → List Action → Type 0

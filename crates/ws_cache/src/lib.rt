@@ -1,4 +1,4 @@
-//! Compiled packages by the id of what they were compiled from.
+//! Caches: compiled packages by the ids of their actions.
 #![tactic(auto)]
 
 mod layers;

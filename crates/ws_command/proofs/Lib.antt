@@ -1,3 +1,3 @@
-pub mod Cuts
-pub mod Words
-pub mod Targets
+mod Cuts
+mod Words
+mod Targets

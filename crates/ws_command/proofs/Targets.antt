@@ -5,7 +5,7 @@ use Rattle.std.specs.List.{list_all}
 use Rattle.std.specs.Option.{option_map}
 use Rattle.std.proofs.lemmas.Bool.Decides.{nat_tests}
 use Rattle.std.proofs.lemmas.List.Folds.{list_all-append}
-use Rattle.ws_command.specs.Commands.{Bad, Build, is_name, if_good, pairs_of, build_of}
+use Rattle.ws_command.specs.Commands.{Bad, Build, is_replica_name, if_good, pairs_of, build_of}
 
 abbrev pub Pairs : Type 0
 Pairs = List (List ℕ × List ℕ)
@@ -15,7 +15,7 @@ abbrev pub onto : Pairs → Option Pairs → Option Pairs
 onto before rest = option_map (λ pairs. before ++ pairs) rest
 
 abbrev pub are_named : Pairs → Bool
-are_named pairs = list_all (λ pair. is_name pair.0) pairs
+are_named pairs = list_all (λ pair. is_replica_name pair.0) pairs
 
 abbrev are_good : Pairs → Bool
 are_good pairs = nat_lt 0 (length pairs) && nat_lt (length pairs) 65 && are_named pairs
@@ -45,10 +45,10 @@ many before pairs pair h =
     let m = length-append before (pair ∷ []) in
     grind (arith, nat_tests, n, m, h)
 
-unnamed : (before pairs : Pairs) (pair : List ℕ × List ℕ) → is_name pair.0 ≡ false → are_good ((before ++ pair ∷ []) ++ pairs) ≡ false
+unnamed : (before pairs : Pairs) (pair : List ℕ × List ℕ) → is_replica_name pair.0 ≡ false → are_good ((before ++ pair ∷ []) ++ pairs) ≡ false
 unnamed before pairs pair h =
-    let n = list_all-append (λ (pair : List ℕ × List ℕ). is_name pair.0) (before ++ pair ∷ []) pairs in
-    let m = list_all-append (λ (pair : List ℕ × List ℕ). is_name pair.0) before (pair ∷ []) in
+    let n = list_all-append (λ (pair : List ℕ × List ℕ). is_replica_name pair.0) (before ++ pair ∷ []) pairs in
+    let m = list_all-append (λ (pair : List ℕ × List ℕ). is_replica_name pair.0) before (pair ∷ []) in
     grind (arith, nat_tests, n, m, h)
 
 -- a target behind 64 of them
@@ -58,5 +58,5 @@ too_many words before pair rest whole h = bad_for words (before ++ pair ∷ []) 
 
 -- a target whose name is none
 pub no_name : (words : List (List ℕ)) (before : Pairs) (pair : List ℕ × List ℕ) (rest : Option Pairs) → pairs_of words ≡ onto (before ++ pair ∷ []) rest
-    → is_name pair.0 ≡ false → Bad ≡ build_of (pairs_of words)
+    → is_replica_name pair.0 ≡ false → Bad ≡ build_of (pairs_of words)
 no_name words before pair rest whole h = bad_for words (before ++ pair ∷ []) rest whole (λ pairs. unnamed before pairs pair h)

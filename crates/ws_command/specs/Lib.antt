@@ -1,9 +1,9 @@
-pub mod Lines
 pub mod Commands
-pub mod Pieces
-pub mod Seen
-pub mod Refusals
-pub mod Printing
-pub mod RunPrinting
 pub mod IdsPrinting
+pub mod Lines
+pub mod Pieces
+pub mod Printing
+pub mod Refusals
+pub mod RunPrinting
 pub mod ShowPrinting
+pub mod Views

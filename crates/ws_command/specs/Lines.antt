@@ -15,15 +15,15 @@ without_return line = if slice_index line (length line - 1) == 13 then take (len
 abbrev pub words_of : List ℕ → List (List ℕ)
 words_of line = filter (λ word. not (length word == 0)) (slice_split (λ b. b == 32) line)
 
-abbrev pub is_digit : ℕ → Bool
-is_digit b = nat_lt 47 b && nat_lt b 58
+abbrev pub is_decimal : ℕ → Bool
+is_decimal b = nat_lt 47 b && nat_lt b 58
 
 -- the number that these digits go on to, behind the digits of n
-abbrev pub number_from : ℕ → List ℕ → Option ℕ
-number_from n [] = Some n
-number_from n (b ∷ bytes) = cond (is_digit b && nat_lt (n * 10 + (b - 48)) 18446744073709551616) (number_from (n * 10 + (b - 48)) bytes) None
+abbrev pub digits_from : ℕ → List ℕ → Option ℕ
+digits_from n [] = Some n
+digits_from n (b ∷ bytes) = cond (is_decimal b && nat_lt (n * 10 + (b - 48)) 18446744073709551616) (digits_from (n * 10 + (b - 48)) bytes) None
 
 -- a number is digits, of at most 18446744073709551615
-abbrev pub number_of : List ℕ → Option ℕ
-number_of [] = None
-number_of (b ∷ bytes) = number_from 0 (b ∷ bytes)
+abbrev pub decimal_value : List ℕ → Option ℕ
+decimal_value [] = None
+decimal_value (b ∷ bytes) = digits_from 0 (b ∷ bytes)

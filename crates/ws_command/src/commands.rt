@@ -1,8 +1,8 @@
 //! What a command line asks for.
 ghost use Rattle.std.specs.Prelude.{◌≡◌, ◌∷◌, [], IfOk};
-ghost use Rattle.ws_command.specs.Commands.{is_name, is_name_byte, is_version, if_good, apply_of, of_others, pairs_of, build_of, use_of, command_of, text_lines};
+ghost use Rattle.ws_command.specs.Commands.{is_replica_name, is_name_byte, is_version, if_good, apply_of, of_others, pairs_of, build_of, use_of, command_of, text_lines};
 ghost use Rattle.ws_command.specs.Lines.{words_of};
-ghost use Rattle.ws_command.specs.Seen.{seen};
+ghost use Rattle.ws_command.specs.Views.{command_view};
 
 use crate::lines::{first_word, number, trimmed};
 use go_text::edition::Edition;
@@ -48,7 +48,7 @@ pub enum Asked<'a> {
 impl Asked<'_> {
     /// How many lines of text follow the command's line.
     pub fn text_lines(&self) -> u64
-        ensures { result ≡ text_lines (seen self.now) }
+        ensures { result ≡ text_lines (command_view self.now) }
     {
         match self {
             Asked::Write(_, _, lines) => *lines,
@@ -73,7 +73,7 @@ fn is_name_byte(byte: u8) -> bool
 
 /// Whether a word may name a replica.
 pub fn is_name(word: &[u8]) -> bool
-    ensures { result ≡ is_name word.now }
+    ensures { result ≡ is_replica_name word.now }
 {
     if word.is_empty() || word.len() > 32 {
         return false;
@@ -87,7 +87,7 @@ pub fn is_name(word: &[u8]) -> bool
 }
 
 fn asked_of_none(word: &[u8]) -> Asked<'static>
-    ensures { seen result ≡ of_others (word.now ∷ []) }
+    ensures { command_view result ≡ of_others (word.now ∷ []) }
 {
     if word == b"settle".as_slice() {
         return Asked::Settle;
@@ -97,7 +97,7 @@ fn asked_of_none(word: &[u8]) -> Asked<'static>
 
 /// The use of an edition, if there is one of that number.
 fn asked_of_edition(number: Option<u64>) -> Asked<'static>
-    ensures { seen result ≡ use_of number }
+    ensures { command_view result ≡ use_of number }
 {
     match number {
         Some(1) => Asked::Use(Edition::One),
@@ -107,7 +107,7 @@ fn asked_of_edition(number: Option<u64>) -> Asked<'static>
 }
 
 fn asked_of_one<'a>(word: &[u8], a: &'a [u8]) -> Asked<'a>
-    ensures { seen result ≡ of_others (word.now ∷ a.now ∷ []) }
+    ensures { command_view result ≡ of_others (word.now ∷ a.now ∷ []) }
 {
     if word == b"replica".as_slice() && is_name(a) {
         return Asked::Create(a);
@@ -122,7 +122,7 @@ fn asked_of_one<'a>(word: &[u8], a: &'a [u8]) -> Asked<'a>
 }
 
 fn asked_of_two<'a>(word: &[u8], a: &'a [u8], b: &'a [u8]) -> Asked<'a>
-    ensures { seen result ≡ of_others (word.now ∷ a.now ∷ b.now ∷ []) }
+    ensures { command_view result ≡ of_others (word.now ∷ a.now ∷ b.now ∷ []) }
 {
     if word == b"merge".as_slice() {
         if is_name(a) && is_name(b) {
@@ -140,7 +140,7 @@ fn asked_of_two<'a>(word: &[u8], a: &'a [u8], b: &'a [u8]) -> Asked<'a>
 }
 
 fn asked_of_three<'a>(word: &[u8], a: &'a [u8], b: &'a [u8], c: &'a [u8]) -> Asked<'a>
-    ensures { seen result ≡ of_others (word.now ∷ a.now ∷ b.now ∷ c.now ∷ []) }
+    ensures { command_view result ≡ of_others (word.now ∷ a.now ∷ b.now ∷ c.now ∷ []) }
 {
     let Some(count) = number(c) else {
         return Asked::Bad;
@@ -159,7 +159,7 @@ fn asked_of_three<'a>(word: &[u8], a: &'a [u8], b: &'a [u8], c: &'a [u8]) -> Ask
 
 /// A write that is applied: a number of lines, or a removal.
 fn applied<'a>(name: &'a [u8], path: &'a [u8], counter: u64, writer: u64, word: &[u8]) -> Asked<'a>
-    ensures { seen result ≡ if_good (is_version counter writer) (apply_of name.now path.now counter writer word.now) }
+    ensures { command_view result ≡ if_good (is_version counter writer) (apply_of name.now path.now counter writer word.now) }
 {
     if counter == 0 || writer == 0 || writer > u32::MAX as u64 {
         return Asked::Bad;
@@ -189,7 +189,7 @@ fn asked_of_five<'a>(
     d: &[u8],
     e: &[u8],
 ) -> Asked<'a>
-    ensures { seen result ≡ of_others (word.now ∷ a.now ∷ b.now ∷ c.now ∷ d.now ∷ e.now ∷ []) }
+    ensures { command_view result ≡ of_others (word.now ∷ a.now ∷ b.now ∷ c.now ∷ d.now ∷ e.now ∷ []) }
 {
     if word != b"apply".as_slice() || !is_name(a) {
         return Asked::Bad;
@@ -205,7 +205,7 @@ fn asked_of_five<'a>(
 
 /// The command that is no build, whose words are this one and those behind it.
 fn asked_of_words<'a>(word: &'a [u8], rest: &'a [u8]) -> Asked<'a>
-    ensures { seen result ≡ of_others (word.now ∷ words_of rest.now) }
+    ensures { command_view result ≡ of_others (word.now ∷ words_of rest.now) }
 {
     let Some((a, rest)) = first_word(rest) else {
         return asked_of_none(word);
@@ -233,7 +233,7 @@ const MOST_TARGETS: usize = 64;
 
 /// The build whose targets are these words, two and two.
 fn asked_of_targets(alloc: Global, words: &[u8]) -> Result<Asked<'_>, AllocError>
-    ensures { IfOk result (λ asked. seen asked ≡ build_of (pairs_of (words_of words.now))) }
+    ensures { IfOk result (λ asked. command_view asked ≡ build_of (pairs_of (words_of words.now))) }
 {
     let mut targets = Vec::new(alloc);
     let mut rest = words;
@@ -255,7 +255,7 @@ fn asked_of_targets(alloc: Global, words: &[u8]) -> Result<Asked<'_>, AllocError
 
 /// What a line asks for.
 pub fn ask(alloc: Global, line: &[u8]) -> Result<Asked<'_>, AllocError>
-    ensures { IfOk result (λ asked. seen asked ≡ command_of line.now) }
+    ensures { IfOk result (λ asked. command_view asked ≡ command_of line.now) }
 {
     let Some((word, rest)) = first_word(trimmed(line)) else {
         return Ok(Asked::Nothing);

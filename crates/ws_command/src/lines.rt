@@ -1,6 +1,6 @@
 //! Lines, words and numbers of a script.
 ghost use Rattle.std.specs.Prelude.{◌≡◌, ◌+◌, ◌<◌, ◌++◌, ◌∷◌, [], length, IfOk, MatchOption, ◌≢◌, slice_index};
-ghost use Rattle.ws_command.specs.Lines.{lines_of, without_return, words_of, number_of};
+ghost use Rattle.ws_command.specs.Lines.{lines_of, without_return, words_of, decimal_value};
 ghost use Rattle.ws_command.specs.Pieces.{without_newline, closed};
 
 use std::alloc::{AllocError, Global};
@@ -101,7 +101,7 @@ pub fn first_word(line: &[u8]) -> Option<(&[u8], &[u8])>
 
 /// The number that digits spell, where it fits.
 pub fn number(word: &[u8]) -> Option<u64>
-    ensures { result ≡ number_of word.now }
+    ensures { result ≡ decimal_value word.now }
 {
     if word.is_empty() {
         return None;

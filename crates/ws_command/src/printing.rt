@@ -3,17 +3,17 @@ ghost use Rattle.std.specs.Prelude.{◌≡◌, ◌++◌, OnOk, IfOk, count_by, m
 ghost use Rattle.std.specs.Fmt.{decimal};
 ghost use Rattle.std.specs.List.{flat_map};
 ghost use Rattle.hex.specs.Hex.{encode_lower};
-ghost use Rattle.ws_command.specs.Printing.{place_text, kind_text, fault_text, blocked_text, row_text, is_bad, summary_text, target_text, report_text};
+ghost use Rattle.ws_command.specs.Printing.{place_text, kind_text, fault_text, blocked_text, row_text, is_bad, counts_text, target_text, report_text};
 ghost use Rattle.ws_command.specs.RunPrinting.{panic_word, ending_text, panic_size, panic_text, run_target_text, head_text, run_text};
 ghost use Rattle.ws_command.specs.IdsPrinting.{standing_text, id_text, ids_text};
 ghost use Rattle.ws_command.specs.ShowPrinting.{content_text, write_text, show_text};
-ghost use Rattle.ws_report.specs.Reports.{rows, row, id_row};
+ghost use Rattle.ws_report.specs.Reports.{verdict_rows, row, id_row};
 
 use go_code::ending::{Ending, PanicKind};
 use go_text::fault::{Fault, FaultKind};
 use go_text::place::Place;
 use std::alloc::{AllocError, Global};
-use ws_report::{IdLine, Report, Standing, Verdict};
+use ws_report::{IdLine, IdStatus, Report, Verdict};
 use ws_version::{Held, Write};
 
 fn push(out: &mut Vec<u8>, text: &[u8]) -> Result<(), AllocError>
@@ -107,13 +107,13 @@ fn count_bad(all: &[(String, Verdict)]) -> usize
 }
 
 /// Adds how many directories were reached, or how many of them aren't good.
-#[tactic(auto, unfolding(crate::specs::Printing::summary_text))]
+#[tactic(auto, unfolding(crate::specs::Printing::counts_text))]
 fn push_summary(
     alloc: Global,
     out: &mut Vec<u8>,
     all: &[(String, Verdict)],
 ) -> Result<(), AllocError>
-    ensures { OnOk result (out.new.items ≡ out.old.items ++ summary_text (map row all.now)) }
+    ensures { OnOk result (out.new.items ≡ out.old.items ++ counts_text (map row all.now)) }
 {
     let bad = count_bad(all);
     if bad == 0 {
@@ -140,7 +140,7 @@ pub fn report_lines(
     directory: &str,
     report: &Report,
 ) -> Result<Vec<u8>, AllocError>
-    ensures { IfOk result (λ text. text.items ≡ report_text name.now directory.now (rows report.now.directories.items) report.now.compiled) }
+    ensures { IfOk result (λ text. text.items ≡ report_text name.now directory.now (verdict_rows report.now.directories.items) report.now.compiled) }
 {
     let mut out = Vec::new(alloc);
     let rows = report.directories.as_slice();
@@ -269,16 +269,16 @@ fn push_id(alloc: Global, out: &mut Vec<u8>, id: [u8; 32]) -> Result<(), AllocEr
 }
 
 /// Adds how a directory's action stands.
-fn push_standing(alloc: Global, out: &mut Vec<u8>, standing: Standing) -> Result<(), AllocError>
+fn push_standing(alloc: Global, out: &mut Vec<u8>, standing: IdStatus) -> Result<(), AllocError>
     ensures { OnOk result (out.new.items ≡ out.old.items ++ standing_text standing) }
 {
     match standing {
-        Standing::NoId => push(out, b" none"),
-        Standing::Absent(id) => {
+        IdStatus::NoId => push(out, b" none"),
+        IdStatus::Absent(id) => {
             push_id(alloc, out, id)?;
             push(out, b" absent")
         }
-        Standing::Held(id) => {
+        IdStatus::Held(id) => {
             push_id(alloc, out, id)?;
             push(out, b" held")
         }

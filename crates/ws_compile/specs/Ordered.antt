@@ -8,6 +8,6 @@ use Rattle.go_export.specs.Summaries.{summary_of}
 use Rattle.ws_cache.specs.Compiles.{Compiled, Good, Faulty}
 
 -- its summary and its object; or the first variable whose value depends on itself
-abbrev pub ComesTo : Package → Compiled → Type 0
-ComesTo p (Good summary object) = ((variable_order p).1 ≡ []) × (summary ≡ summary_of p) × (object ≡ object_of p)
-ComesTo p (Faulty fault) = IsCycleAt p fault.file fault.place × (fault.kind ≡ InitCycle)
+abbrev pub CompilesTo : Package → Compiled → Type 0
+CompilesTo p (Good summary object) = ((variable_order p).1 ≡ []) × (summary ≡ summary_of p) × (object ≡ object_of p)
+CompilesTo p (Faulty fault) = IsCycleAt p fault.file fault.place × (fault.kind ≡ InitCycle)

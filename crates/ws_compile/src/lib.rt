@@ -1,4 +1,4 @@
-//! Compiling: an action becomes an entry.
+//! The compiler: makes an entry of an action.
 #![tactic(auto)]
 
 ghost use Rattle.std.specs.Prelude.{◌≡◌, [], map, Err, IfOk, IfErr};
@@ -10,7 +10,7 @@ ghost use Rattle.go_check.specs.Names.{importable_by};
 ghost use Rattle.go_export.specs.declared.error.SummaryError.TheVariants.{Unshown};
 ghost use Rattle.go_export.specs.Summaries.{summary_of};
 ghost use Rattle.ws_cache.specs.Compiles.{Good, IsResult, Compiles, compiled_of};
-ghost use Rattle.ws_compile.specs.Ordered.{ComesTo};
+ghost use Rattle.ws_compile.specs.Ordered.{CompilesTo};
 ghost use Rattle.ws_compile.specs.Unshown.{IsUnshown, AreUnshown, HasNoSummary};
 
 use go_ast::parsed::Parsed;
@@ -78,7 +78,7 @@ fn result_of(
 /// What a typed package comes to: the first variable that no order gives a value, or else what
 /// importers know of it and its object. An `Err` as in `outcome_of`.
 fn ordered(alloc: Global, typed: &Typed) -> Result<Outcome, SummaryError>
-    ensures ok { IfOk result (λ outcome. ComesTo (typed_of typed.now) (compiled_of outcome)) }
+    ensures ok { IfOk result (λ outcome. CompilesTo (typed_of typed.now) (compiled_of outcome)) }
     ensures unshown { result ≡ Err Unshown → ((variable_order (typed_of typed.now)).1 ≡ []) × HasNoSummary (typed_of typed.now) }
 {
     match variable_order(alloc, typed) {

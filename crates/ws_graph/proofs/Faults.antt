@@ -13,8 +13,8 @@ use Rattle.ws_reach.specs.Reach.{Edge, Reaches, Walks}
 use Rattle.ws_reach.proofs.Reached.{get_contains}
 use Rattle.ws_reach.proofs.Closure.{IsOneOf}
 use Rattle.ws_graph.specs.BuildPlan as plan
-use Rattle.ws_graph.specs.BuildPlan.{Sources, Import, HasImports, HasImport, HasNone, IsAtFirst, HasNoFiles, Imports, LeadsBack, IsProgram, IsImportFault, ImportsAreSound}
-use Rattle.ws_graph.specs.Discovery.{IsTarget, AreTargets, Leads, HasFault, NoneHas, IsFirst, IsFaultAt, of_missing, of_cycle, of_program, fault_at, TargetFault}
+use Rattle.ws_graph.specs.BuildPlan.{Sources, Import, HasImports, HasImport, HasNone, IsAtFirst, HasNoFiles, LeadsBack, IsMainPackage, IsImportFault, ImportsAreSound}
+use Rattle.ws_graph.specs.Discovery.{IsTarget, AreTargets, ImportLeads, HasFault, NoneHas, IsFirst, IsFaultAt, of_missing, of_cycle, of_program, target_fault, TargetFault}
 use Rattle.ws_graph.specs.declared.target.Target.{Target}
 use Rattle.ws_graph.proofs.Filed.{has_files}
 use Rattle.ws_graph.proofs.Leading.{zip_to, lead_paths, lead_numbers, IsClosed, HasImported, number_cases, number_at}
@@ -53,7 +53,7 @@ split R (i ∷ is) (t ∷ front) target rest z =
     let h = split R is front target rest z.1 in
     record { before = i ∷ h.before; import = h.import; rest = h.rest; whole = ap (λ (l : List Import). i ∷ l) h.whole; zip = (z.0, h.zip); here = h.here }
 
-first_moved : (P : List ℕ → Type 0) (Q : Option ℕ → Type 0) (imports : List Import) (targets : List Target) (kind : FaultKind) (target : Target) (fault : Fault) → AllZip (Agree P Q) imports targets → IsFirst Q targets target → fault ≡ fault_at target kind → IsAtFirst P imports kind fault
+first_moved : (P : List ℕ → Type 0) (Q : Option ℕ → Type 0) (imports : List Import) (targets : List Target) (kind : FaultKind) (target : Target) (fault : Fault) → AllZip (Agree P Q) imports targets → IsFirst Q targets target → fault ≡ target_fault target kind → IsAtFirst P imports kind fault
 first_moved P Q imports targets kind target fault z first is =
     let s = split (Agree P Q) imports first.front target first.rest (subst (AllZip (Agree P Q) imports) first.whole z) in
     let here = s.here in
@@ -71,7 +71,7 @@ first_moved P Q imports targets kind target fault z first is =
 pub record AllAgree (ed : Edition) (sources : Sources) (path : List ℕ) (closing : List (List ℕ)) (programs : List Bool) (here : ℕ) (imports : List Import) (targets : List Target) : Type 0 where
   pub missing : AllZip (Agree (HasNoFiles sources) (HasFault closing programs here NoImport)) imports targets
   pub cycle : NoneHas (HasFault closing programs here NoImport) targets → AllZip (Agree (LeadsBack ed sources path) (HasFault closing programs here Cycle)) imports targets
-  pub program : NoneHas (HasFault closing programs here NoImport) targets → AllZip (Agree (IsProgram ed sources) (HasFault closing programs here Program)) imports targets
+  pub program : NoneHas (HasFault closing programs here NoImport) targets → AllZip (Agree (IsMainPackage ed sources) (HasFault closing programs here Program)) imports targets
 
 module _ (ed : Edition) (sources : Sources) (path : List ℕ) (closing : List (List ℕ)) (programs : List Bool) (here : ℕ) (imports : List Import) (targets : List Target) (all : AllAgree ed sources path closing programs here imports targets) where
   pub fault_moved : (target : Target) (fault : Fault) → IsFaultAt closing programs here targets target fault → IsImportFault ed sources path imports fault
@@ -82,7 +82,7 @@ module _ (ed : Edition) (sources : Sources) (path : List ℕ) (closing : List (L
   fault_moved target fault (of_program n m first is) = plan.of_program
       (none_moved (HasNoFiles sources) (HasFault closing programs here NoImport) imports targets all.missing n)
       (none_moved (LeadsBack ed sources path) (HasFault closing programs here Cycle) imports targets (all.cycle n) m)
-      (first_moved (IsProgram ed sources) (HasFault closing programs here Program) imports targets Program target fault (all.program n) first is)
+      (first_moved (IsMainPackage ed sources) (HasFault closing programs here Program) imports targets Program target fault (all.program n) first is)
 
   pub sound_moved : HasImports ed sources path imports → TargetFault closing programs here targets None → ImportsAreSound ed sources path
   sound_moved has (n, m, l) = record {
@@ -90,7 +90,7 @@ module _ (ed : Edition) (sources : Sources) (path : List ℕ) (closing : List (L
     has = has;
     none_missing = none_moved (HasNoFiles sources) (HasFault closing programs here NoImport) imports targets all.missing n;
     none_leads_back = none_moved (LeadsBack ed sources path) (HasFault closing programs here Cycle) imports targets (all.cycle n) m;
-    none_program = none_moved (IsProgram ed sources) (HasFault closing programs here Program) imports targets (all.program n) l;
+    none_program = none_moved (IsMainPackage ed sources) (HasFault closing programs here Program) imports targets (all.program n) l;
   }
 
 -- ---- that they agree
@@ -106,12 +106,12 @@ same_number m n o e f = let both : Some m ≡ Some n = sym e ∙ f in cc
 pub record Numbered (ed : Edition) (sources : Sources) (paths : List (List ℕ)) (rows closing : List (List ℕ)) (programs : List Bool) : Type 0 where
   pub sorted : IsStrictlySortedBy path_cmp paths
   pub closed : IsClosed ed sources paths
-  pub rows_lead : (p q : ℕ) → Edge rows p q → Leads ed sources paths p q
-  pub lead_rows : (p q : ℕ) → Leads ed sources paths p q → Edge rows p q
+  pub rows_lead : (p q : ℕ) → Edge rows p q → ImportLeads ed sources paths p q
+  pub lead_rows : (p q : ℕ) → ImportLeads ed sources paths p q → Edge rows p q
   pub closing_from : (q p : ℕ) → Edge closing q p → Edge rows p q × Reaches (Edge rows) q p
   pub closing_to : (q p : ℕ) → Edge rows p q → Reaches (Edge rows) q p → Edge closing q p
-  pub program_from : (k : ℕ) (q : List ℕ) → slice_get paths k ≡ Some q → slice_get programs k ≡ Some true → IsProgram ed sources q
-  pub program_to : (k : ℕ) (q : List ℕ) → slice_get paths k ≡ Some q → IsProgram ed sources q → slice_get programs k ≡ Some true
+  pub program_from : (k : ℕ) (q : List ℕ) → slice_get paths k ≡ Some q → slice_get programs k ≡ Some true → IsMainPackage ed sources q
+  pub program_to : (k : ℕ) (q : List ℕ) → slice_get paths k ≡ Some q → IsMainPackage ed sources q → slice_get programs k ≡ Some true
 
 module _ (ed : Edition) (sources : Sources) (paths : List (List ℕ)) (rows closing : List (List ℕ)) (programs : List Bool) (known : Numbered ed sources paths rows closing programs) (path : List ℕ) (here : ℕ) (at : slice_get paths here ≡ Some path) (of : HasImported ed sources paths path)
     (imports : List Import) (targets : List Target) (has : HasImports ed sources path imports) (zip : AreTargets paths imports targets) where
@@ -144,16 +144,16 @@ module _ (ed : Edition) (sources : Sources) (paths : List (List ℕ)) (rows clos
       | inr some ↦ (
           let there = lead_numbers ed sources paths known.closed back.0 some.0 i.spec.path path back.1 some.2 in
           let place = one_place path_cmp path_cmp_total paths known.sorted path there.0 here there.1 at in
-          let way : Reaches (Leads ed sources paths) some.0 here = subst (Reaches (Leads ed sources paths) some.0) place there.2 in
-          let lead : Leads ed sources paths here some.0 = record { from = path; to = i.spec.path; at_from = at; at_to = some.2; imports = record { import = import_of i in_imports; files = of.filed i.spec.path (import_of i in_imports) (get_contains paths some.0 i.spec.path some.2) } } in
-          (some.0, some.1, known.closing_to some.0 here (known.lead_rows here some.0 lead) (way.0, reaches_turn (Leads ed sources paths) (Edge rows) known.lead_rows way.0 some.0 here way.1)))
+          let way : Reaches (ImportLeads ed sources paths) some.0 here = subst (Reaches (ImportLeads ed sources paths) some.0) place there.2 in
+          let lead : ImportLeads ed sources paths here some.0 = record { from = path; to = i.spec.path; at_from = at; at_to = some.2; imports = record { import = import_of i in_imports; files = of.filed i.spec.path (import_of i in_imports) (get_contains paths some.0 i.spec.path some.2) } } in
+          (some.0, some.1, known.closing_to some.0 here (known.lead_rows here some.0 lead) (way.0, reaches_turn (ImportLeads ed sources paths) (Edge rows) known.lead_rows way.0 some.0 here way.1)))
     ];
     back = λ closes. (
         let way = (known.closing_from closes.0 here closes.2).1 in
-        lead_paths ed sources paths way.0 closes.0 here i.spec.path path (reaches_turn (Edge rows) (Leads ed sources paths) known.rows_lead way.0 closes.0 here way.1) (number_at paths i.spec.path t.number closes.0 h.number closes.1) at);
+        lead_paths ed sources paths way.0 closes.0 here i.spec.path path (reaches_turn (Edge rows) (ImportLeads ed sources paths) known.rows_lead way.0 closes.0 here way.1) (number_at paths i.spec.path t.number closes.0 h.number closes.1) at);
   }
 
-  program_agrees : NoneHas (HasFault closing programs here NoImport) targets → (i : Import) (t : Target) → IsOneOf i imports → IsOneOf t targets → IsTarget paths i t → Agree (IsProgram ed sources) (HasFault closing programs here Program) i t
+  program_agrees : NoneHas (HasFault closing programs here NoImport) targets → (i : Import) (t : Target) → IsOneOf i imports → IsOneOf t targets → IsTarget paths i t → Agree (IsMainPackage ed sources) (HasFault closing programs here Program) i t
   program_agrees none i t in_imports in_targets h = record {
     file = h.file;
     place = h.place;
@@ -168,5 +168,5 @@ module _ (ed : Edition) (sources : Sources) (paths : List (List ℕ)) (rows clos
   all_agree = record {
     missing = zip_turn (IsTarget paths) (Agree (HasNoFiles sources) (HasFault closing programs here NoImport)) imports targets missing_agrees zip;
     cycle = λ none. zip_turn (IsTarget paths) (Agree (LeadsBack ed sources path) (HasFault closing programs here Cycle)) imports targets (cycle_agrees none) zip;
-    program = λ none. zip_turn (IsTarget paths) (Agree (IsProgram ed sources) (HasFault closing programs here Program)) imports targets (program_agrees none) zip;
+    program = λ none. zip_turn (IsTarget paths) (Agree (IsMainPackage ed sources) (HasFault closing programs here Program)) imports targets (program_agrees none) zip;
   }

@@ -3,7 +3,7 @@ use Rattle.std.proofs.Common.{◌≡◌, ◌⊎◌, ℕ, Bool, true, false, cond
 use Rattle.std.specs.List.{filter, flat_map}
 use Rattle.std.proofs.lemmas.Slice.Eq.{bytes_eq-Decides}
 use Rattle.ws_path.specs.Paths.{directory, file_name}
-use Rattle.ws_register.specs.Sources.{is_in, named}
+use Rattle.ws_register.specs.Sources.{is_in, by_file_name}
 use Rattle.ws_reach.proofs.Closure.{IsOneOf}
 use Rattle.ws_graph.specs.Packages.{is_built, package_files}
 use Rattle.ws_graph.specs.BuildPlan.{Sources, HasNoFiles}
@@ -20,12 +20,12 @@ abbrev pub built_directories : Sources → List (List ℕ)
 built_directories sources = flat_map (λ (source : Pair). built_directory source.0) sources
 
 -- the files with one more source
-pub files_step : (q : List ℕ) (s : Pair) (ss : Sources) (b c : Bool) → is_in q s.0 ≡ b → is_built (file_name s.0) ≡ c → package_files q (s ∷ ss) ≡ cond b (cond c (named s ∷ package_files q ss) (package_files q ss)) (package_files q ss)
+pub files_step : (q : List ℕ) (s : Pair) (ss : Sources) (b c : Bool) → is_in q s.0 ≡ b → is_built (file_name s.0) ≡ c → package_files q (s ∷ ss) ≡ cond b (cond c (by_file_name s ∷ package_files q ss) (package_files q ss)) (package_files q ss)
 files_step q s ss true c e f =
-    ap (λ t. filter (λ (file : Pair). is_built file.0) (map named (cond t (s ∷ filter (λ (source : Pair). is_in q source.0) ss) (filter (λ (source : Pair). is_in q source.0) ss)))) e
-    ∙ ap (λ t. cond t (named s ∷ package_files q ss) (package_files q ss)) f
+    ap (λ t. filter (λ (file : Pair). is_built file.0) (map by_file_name (cond t (s ∷ filter (λ (source : Pair). is_in q source.0) ss) (filter (λ (source : Pair). is_in q source.0) ss)))) e
+    ∙ ap (λ t. cond t (by_file_name s ∷ package_files q ss) (package_files q ss)) f
 files_step q s ss false c e f =
-    ap (λ t. filter (λ (file : Pair). is_built file.0) (map named (cond t (s ∷ filter (λ (source : Pair). is_in q source.0) ss) (filter (λ (source : Pair). is_in q source.0) ss)))) e
+    ap (λ t. filter (λ (file : Pair). is_built file.0) (map by_file_name (cond t (s ∷ filter (λ (source : Pair). is_in q source.0) ss) (filter (λ (source : Pair). is_in q source.0) ss)))) e
 
 directories_step : (q : List ℕ) (s : Pair) (ss : Sources) (c : Bool) → is_built (file_name s.0) ≡ c → IsOneOf q (cond c (directory s.0 ∷ []) [] ++ built_directories ss) → IsOneOf q (built_directories (s ∷ ss))
 directories_step q s ss c f h = subst (λ t. IsOneOf q (cond t (directory s.0 ∷ []) [] ++ built_directories ss)) (sym f) h
@@ -44,7 +44,7 @@ to_directory q [] n = absurd (n refl)
 to_directory q (s ∷ ss) n = to_here q s ss (is_in q s.0) (is_built (file_name s.0)) refl refl n (to_directory q ss)
 
 from_here : (q : List ℕ) (s : Pair) (ss : Sources) (b c : Bool) → is_in q s.0 ≡ b → is_built (file_name s.0) ≡ c → IsOneOf q (built_directories (s ∷ ss)) → package_files q (s ∷ ss) ≡ [] → (IsOneOf q (built_directories ss) → package_files q ss ≡ [] → ⊥) → ⊥
-from_here q s ss true true e f one none more = let z : named s ∷ package_files q ss ≡ [] = sym (files_step q s ss true true e f) ∙ none in cc (z)
+from_here q s ss true true e f one none more = let z : by_file_name s ∷ package_files q ss ≡ [] = sym (files_step q s ss true true e f) ∙ none in cc (z)
 from_here q s ss true false e f one none more = more (directories_back q s ss false f one) (sym (files_step q s ss true false e f) ∙ none)
 from_here q s ss false true e f one none more = elim (directories_back q s ss true f one) [
   | inl same ↦ (let t : is_in q s.0 ≡ true = (bytes_eq-Decides (directory s.0) q).1 (sym same) in let z : true ≡ false = sym t ∙ e in cc (z))

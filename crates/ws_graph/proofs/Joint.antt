@@ -4,7 +4,7 @@ use Rattle.std.specs.List.{Contains}
 use Rattle.ws_version.specs.Writes.{Write}
 use Rattle.go_text.specs.declared.edition.Edition.{Edition}
 use Rattle.ws_graph.specs.Plan.{NoFiles, IsPlanOf}
-use Rattle.ws_graph.specs.BuildPlan.{Sources, Reaches, Directory, IsBuildPlan, IsJointPlan, SomeHasNoFiles}
+use Rattle.ws_graph.specs.BuildPlan.{Sources, ReachesByImports, Directory, IsBuildPlan, IsJointPlan, SomeHasNoFiles}
 use Rattle.ws_graph.proofs.Sorted.{one_of, contained}
 
 only_one : (t p : List ℕ) → Contains (t ∷ []) p → p ≡ t
@@ -19,7 +19,7 @@ joint_of_one ed sources target ds h = record {
   files = h.files target (contained (target ∷ []) target (inl refl));
   ascending = h.ascending;
   reached = λ p. (
-    λ c. (let way = (h.reached p).0 c in subst (λ t. Reaches ed sources t p) (only_one target way.0 way.1) way.2),
+    λ c. (let way = (h.reached p).0 c in subst (λ t. ReachesByImports ed sources t p) (only_one target way.0 way.1) way.2),
     λ way. (h.reached p).1 (target, contained (target ∷ []) target (inl refl), way),
   );
   planned = h.planned;

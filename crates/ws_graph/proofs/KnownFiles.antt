@@ -10,8 +10,7 @@ use Rattle.go_text.specs.declared.edition.Edition.{Edition}
 use Rattle.go_text.specs.Named.{Source}
 use Rattle.go_ast.specs.Trees.{File}
 use Rattle.go_ast.specs.Parse.{Parsed, Derived, IsParse}
-use Rattle.ws_register.specs.Sources.{pair_of}
-use Rattle.ws_graph.specs.Plan.{source_of, is_large}
+use Rattle.ws_graph.specs.Plan.{is_large}
 use Rattle.ws_graph.specs.Discovery.{IsFileOf}
 
 -- its edition

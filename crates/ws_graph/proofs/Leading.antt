@@ -13,7 +13,7 @@ use Rattle.go_ast.specs.Parse.{Parsed}
 use Rattle.ws_graph.specs.Packages.{package_files}
 use Rattle.ws_graph.specs.Plan.{Planned, NoFiles, Faulty, Sound, IsPlan}
 use Rattle.ws_graph.specs.BuildPlan.{Sources, Import, HasImports, HasImport, HasNoFiles, Imports}
-use Rattle.ws_graph.specs.Discovery.{IsNumber, IsTarget, AreTargets, AreTargetsOf, HasNumber, Leads}
+use Rattle.ws_graph.specs.Discovery.{IsNumber, IsTarget, AreTargets, AreTargetsOf, HasNumber, ImportLeads}
 use Rattle.ws_graph.specs.declared.target.Target.{Target}
 use Rattle.ws_graph.proofs.OnePlan.{one_plan}
 use Rattle.ws_graph.proofs.OneBuildPlan.{same_imports}
@@ -40,7 +40,7 @@ zip_from R (x ∷ xs) (y ∷ ys) z w (inr one) = let h = zip_from R xs ys z.1 w 
 same_some : {A : Type 0} (x y : A) → Some x ≡ Some y → x ≡ y
 same_some x y e = cc
 
-pub lead_paths : (ed : Edition) (sources : Sources) (all : List (List ℕ)) (steps : List ℕ) (p q : ℕ) (a b : List ℕ) → Walks (Leads ed sources all) p steps q → slice_get all p ≡ Some a → slice_get all q ≡ Some b → Reaches (Imports ed sources) a b
+pub lead_paths : (ed : Edition) (sources : Sources) (all : List (List ℕ)) (steps : List ℕ) (p q : ℕ) (a b : List ℕ) → Walks (ImportLeads ed sources all) p steps q → slice_get all p ≡ Some a → slice_get all q ≡ Some b → Reaches (Imports ed sources) a b
 lead_paths ed sources all [] p q a b w at_p at_q = ([], same_some a b (sym at_p ∙ ap (slice_get all) w ∙ at_q))
 lead_paths ed sources all (r ∷ rs) p q a b (first, rest) at_p at_q =
     let from : first.from ≡ a = same_some first.from a (sym first.at_from ∙ at_p) in
@@ -50,14 +50,14 @@ lead_paths ed sources all (r ∷ rs) p q a b (first, rest) at_p at_q =
 abbrev pub IsClosed : Edition → Sources → List (List ℕ) → Type 0
 IsClosed ed sources all = (a b : List ℕ) → Contains all a → Imports ed sources a b → Contains all b
 
-pub lead_numbers : (ed : Edition) (sources : Sources) (all : List (List ℕ)) → IsClosed ed sources all → (steps : List (List ℕ)) (p : ℕ) (a b : List ℕ) → Walks (Imports ed sources) a steps b → slice_get all p ≡ Some a → (q : ℕ) × (slice_get all q ≡ Some b) × Reaches (Leads ed sources all) p q
-lead_numbers ed sources all closed [] p a b w at_p = (p, at_p ∙ ap Some w, reaches_itself (Leads ed sources all) p)
+pub lead_numbers : (ed : Edition) (sources : Sources) (all : List (List ℕ)) → IsClosed ed sources all → (steps : List (List ℕ)) (p : ℕ) (a b : List ℕ) → Walks (Imports ed sources) a steps b → slice_get all p ≡ Some a → (q : ℕ) × (slice_get all q ≡ Some b) × Reaches (ImportLeads ed sources all) p q
+lead_numbers ed sources all closed [] p a b w at_p = (p, at_p ∙ ap Some w, reaches_itself (ImportLeads ed sources all) p)
 lead_numbers ed sources all closed (c ∷ cs) p a b (first, rest) at_p =
     let there = closed a c (get_contains all p a at_p) first in
     let at_c = contains_get all c there in
     let more = lead_numbers ed sources all closed cs there.0 c b rest at_c in
-    let one : Leads ed sources all p there.0 = record { from = a; to = c; at_from = at_p; at_to = at_c; imports = first } in
-    (more.0, more.1, reaches_from (Leads ed sources all) p there.0 more.0 one more.2)
+    let one : ImportLeads ed sources all p there.0 = record { from = a; to = c; at_from = at_p; at_to = at_c; imports = first } in
+    (more.0, more.1, reaches_from (ImportLeads ed sources all) p there.0 more.0 one more.2)
 
 -- ---- the numbers of targets
 

@@ -1,30 +1,30 @@
-pub mod Adding
-pub mod Bounded
+mod Adding
+mod Bounded
 mod Built
-pub mod Faults
+mod Faults
 pub mod Filed
-pub mod First
-pub mod Imported
-pub mod InTurn
-pub mod Inserted
+mod First
+mod Imported
+mod InTurn
+mod Inserted
 pub mod Joint
-pub mod Judging
+mod Judging
 mod KnownFiles
 pub mod Leading
 pub mod Linked
-pub mod Mains
-pub mod Named
-pub mod Next
+mod Mains
+mod Named
+mod Next
 pub mod OneBuildPlan
 pub mod OnePlan
-pub mod Places
-pub mod PlanFiles
+mod Places
+mod PlanFiles
 pub mod RankedPlan
-pub mod Reading
-pub mod Searching
+mod Reading
+mod Searching
 pub mod SomeBuildPlan
-pub mod SomePlan
+mod SomePlan
 pub mod Sorted
-pub mod Walking
+mod Walking
 pub mod Wholes
-pub mod Within
+mod Within

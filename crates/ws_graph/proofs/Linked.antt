@@ -10,11 +10,11 @@ use Rattle.ws_reach.specs.Reach.{Edge, rows_of}
 use Rattle.ws_reach.proofs.Reached.{reaches_more, reaches_stay, get_contains, contains_get}
 use Rattle.ws_graph.specs.Packages.{package_files}
 use Rattle.ws_graph.specs.Plan.{Planned, NoFiles, Faulty, Sound, IsPlan}
-use Rattle.ws_graph.specs.BuildPlan.{Sources, Imports, HasImports, HasNoFiles, IsProgram, IsPlannedAs, Directory, paths_of, AreNumbers, ReachedFrom, IsJointPlan}
+use Rattle.ws_graph.specs.BuildPlan.{Sources, Imports, HasImports, HasNoFiles, IsMainPackage, IsPlannedAs, Directory, paths_of, AreNumbers, IsReachedFromTargets, IsJointPlan}
 use Rattle.std.proofs.lemmas.List.{length-append}
 use Rattle.ws_graph.specs.Node.{planned_of, directory_of}
 use Rattle.ws_graph.specs.declared.planning.Directory.{Directory as CodeDirectory}
-use Rattle.ws_graph.specs.Discovery.{AreTargetsOf, AreNumbersOf, AreAll, AreLinks, IsFound, IsLinkedAt, Leads, IsFaultAt, of_missing, of_cycle, of_program, TargetFault, planned_with}
+use Rattle.ws_graph.specs.Discovery.{AreTargetsOf, AreNumbersOf, AreAll, AreLinks, IsFound, IsLinkedAt, ImportLeads, IsFaultAt, of_missing, of_cycle, of_program, TargetFault, planned_with}
 use Rattle.ws_graph.specs.declared.target.Target.{Target}
 use Rattle.ws_graph.specs.declared.wave.Found.{Found}
 use Rattle.ws_graph.specs.declared.link.Links.{Links}
@@ -127,7 +127,7 @@ module _ (ed : Edition) (sources : Sources) (targets : List (List ℕ)) (paths :
       let lead = numbers_lead ed sources paths path (planned_of found.node) targets.items is.plan of all.ascending (imported path (get_contains paths k path at)) q in
       (λ c. lead.0 ((numbers.are q).0 c), λ t. (numbers.are q).1 (lead.1 t))
 
-  rows_lead : (p q : ℕ) → Edge (rows_of links.rows.items) p q → Leads ed sources paths p q
+  rows_lead : (p q : ℕ) → Edge (rows_of links.rows.items) p q → ImportLeads ed sources paths p q
   rows_lead p q (row, at, c) =
       let v = map_left (λ (x : Vec ℕ). x.items) links.rows.items p row at in
       let targets = zip_right AreNumbersOf links.targets.items links.rows.items are.rows p v.0 v.1 in
@@ -136,7 +136,7 @@ module _ (ed : Edition) (sources : Sources) (targets : List (List ℕ)) (paths :
       let to = (row_numbers p path.0 found.0 targets.0 v.0 path.1 path.2 found.2 targets.2 q).0 (subst (λ (l : List ℕ). Contains l q) v.2 c) in
       record { from = path.0; to = to.0; at_from = path.1; at_to = to.1; imports = to.2 }
 
-  lead_rows : (p q : ℕ) → Leads ed sources paths p q → Edge (rows_of links.rows.items) p q
+  lead_rows : (p q : ℕ) → ImportLeads ed sources paths p q → Edge (rows_of links.rows.items) p q
   lead_rows p q lead =
       let found = zip_left (IsFound ed sources) paths founds all.founds_are p lead.from lead.at_from in
       let targets = zip_left (λ (f : Found) (ts : Vec Target). AreTargetsOf paths (planned_of f.node) ts.items) founds links.targets.items are.targets p found.0 found.1 in
@@ -158,7 +158,7 @@ module _ (ed : Edition) (sources : Sources) (targets : List (List ℕ)) (paths :
         let f = map_left (λ (x : Found). x.program) founds k true (ap (λ (l : List Bool). slice_get l k) (sym are.programs) ∙ is) in
         let path = zip_right (IsFound ed sources) paths founds all.founds_are k f.0 f.1 in
         let same = same_some path.0 q (slice_get paths k) path.1 at in
-        subst (IsProgram ed sources) same (path.2.program.0 (sym f.2)));
+        subst (IsMainPackage ed sources) same (path.2.program.0 (sym f.2)));
     program_to = λ k q at is. (
         let f = zip_left (IsFound ed sources) paths founds all.founds_are k q at in
         ap (λ (l : List Bool). slice_get l k) are.programs ∙ map_right (λ (x : Found). x.program) founds k f.0 f.1 ∙ ap Some (f.2.program.1 is));
@@ -217,7 +217,7 @@ module _ (ed : Edition) (sources : Sources) (targets : List (List ℕ)) (paths :
       record {
         files = all.files;
         ascending = subst (IsStrictlySortedBy path_cmp) (sym same) all.ascending;
-        reached = subst (λ (ps : List (List ℕ)). (q : List ℕ) → (Contains ps q → ReachedFrom ed sources targets q) × (ReachedFrom ed sources targets q → Contains ps q)) (sym same) all.reached;
+        reached = subst (λ (ps : List (List ℕ)). (q : List ℕ) → (Contains ps q → IsReachedFromTargets ed sources targets q) × (IsReachedFromTargets ed sources targets q → Contains ps q)) (sym same) all.reached;
         planned = λ d c. (right d c).planned;
         imports = λ d c. subst (λ (ps : List (List ℕ)). AreNumbers ed sources ps d.path d.imports) (sym same) (right d c).numbers;
       }

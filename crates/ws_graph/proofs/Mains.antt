@@ -5,7 +5,7 @@ use Rattle.go_ast.specs.Parse.{Parsed, IsNamed, IsOther}
 use Rattle.go_text.specs.declared.edition.Edition.{Edition}
 use Rattle.ws_graph.specs.Packages.{package_files}
 use Rattle.ws_graph.specs.Plan.{AreParsed}
-use Rattle.ws_graph.specs.BuildPlan.{Sources, IsProgram}
+use Rattle.ws_graph.specs.BuildPlan.{Sources, IsMainPackage}
 use Rattle.ws_graph.specs.Discovery.{IsFirstMain}
 use Rattle.ws_graph.proofs.OnePlan.{named_so, one_parsed}
 
@@ -24,7 +24,7 @@ main_iff name false first rest parsed is named other = (
       absurd (named_so first.edition name first.text (subst (λ (p : Parsed). IsNamed p.edition name p.text) heads h.3) other)),
 )
 
-pub program_iff : (ed : Edition) (sources : Sources) (path : List ℕ) (parsed : List Parsed) → AreParsed ed (package_files path sources) parsed → (IsFirstMain parsed → IsProgram ed sources path) × (IsProgram ed sources path → IsFirstMain parsed)
+pub program_iff : (ed : Edition) (sources : Sources) (path : List ℕ) (parsed : List Parsed) → AreParsed ed (package_files path sources) parsed → (IsFirstMain parsed → IsMainPackage ed sources path) × (IsMainPackage ed sources path → IsFirstMain parsed)
 program_iff ed sources path parsed are = (
   λ h. record { first = h.0; rest = h.1; parses = subst (AreParsed ed (package_files path sources)) h.2 are; named = h.3 },
   λ h. (h.first, h.rest, one_parsed ed (package_files path sources) parsed (h.first ∷ h.rest) are h.parses, h.named),

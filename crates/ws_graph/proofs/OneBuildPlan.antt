@@ -16,24 +16,24 @@ use Rattle.ws_map.specs.Kept.{SameMembers}
 use Rattle.ws_register.proofs.Laws.{same_sources}
 use Rattle.ws_graph.specs.Packages.{package_files}
 use Rattle.ws_graph.specs.Plan.{Planned, NoFiles, Faulty, Sound, IsPlan}
-use Rattle.ws_graph.specs.BuildPlan.{Sources, Import, imports_in, AreImports, HasImports, HasNone, IsAtFirst, HasNoFiles, LeadsBack, IsProgram, IsImportFault, of_missing, of_cycle, of_program, ImportFault, ImportsAreSound, IsPlannedAs, Directory, paths_of, AreNumbers, IsBuildPlan, IsBuildPlanOf}
+use Rattle.ws_graph.specs.BuildPlan.{Sources, Import, directory_imports, AreDirectoryImports, HasImports, HasNone, IsAtFirst, HasNoFiles, LeadsBack, IsMainPackage, IsImportFault, of_missing, of_cycle, of_program, ImportFault, ImportsAreSound, IsPlannedAs, Directory, paths_of, AreNumbers, IsBuildPlan, IsBuildPlanOf}
 use Rattle.ws_graph.proofs.OnePlan.{one_file, one_plan}
 use Rattle.ws_graph.proofs.Sorted.{one_sorted}
 
 -- ---- imports
 
-pub one_imports : (ps : List Parsed) (is js : List Import) → AreImports ps is → AreImports ps js → is ≡ js
+pub one_imports : (ps : List Parsed) (is js : List Import) → AreDirectoryImports ps is → AreDirectoryImports ps js → is ≡ js
 one_imports [] is js g h = g ∙ sym h
 one_imports (p ∷ ps) is js g h =
     let files : g.0 ≡ h.0 = one_file p.edition p.text g.0 h.0 g.2 h.2 in
     let rests : g.1 ≡ h.1 = one_imports ps g.1 h.1 g.3 h.3 in
-    g.4 ∙ ap (λ (x : File). imports_in p.name x.imports ++ g.1) files ∙ ap (λ l. imports_in p.name h.0.imports ++ l) rests ∙ sym h.4
+    g.4 ∙ ap (λ (x : File). directory_imports p.name x.imports ++ g.1) files ∙ ap (λ l. directory_imports p.name h.0.imports ++ l) rests ∙ sym h.4
 
 pub same_imports : (ed : Edition) (sources : Sources) (path : List ℕ) (is js : List Import) → HasImports ed sources path is → HasImports ed sources path js → is ≡ js
 same_imports ed sources path is js g h =
     let plans : Sound g.parsed ≡ Sound h.parsed = one_plan ed (package_files path sources) (Sound g.parsed) (Sound h.parsed) g.sound h.sound in
     let parsed : g.parsed ≡ h.parsed = cc in
-    one_imports h.parsed is js (subst (λ ps. AreImports ps is) parsed g.are) h.are
+    one_imports h.parsed is js (subst (λ ps. AreDirectoryImports ps is) parsed g.are) h.are
 
 -- ---- faults of imports
 
@@ -80,12 +80,12 @@ fault_once ed sources path is f g (of_cycle n a) (of_cycle m b) = at_first_once 
 fault_once ed sources path is f g (of_cycle n a) (of_program m l b) = absurd (none_else (LeadsBack ed sources path) is _ f a l)
 fault_once ed sources path is f g (of_program n m a) (of_missing b) = absurd (none_else (HasNoFiles sources) is _ g b n)
 fault_once ed sources path is f g (of_program n m a) (of_cycle l b) = absurd (none_else (LeadsBack ed sources path) is _ g b m)
-fault_once ed sources path is f g (of_program n m a) (of_program k l b) = at_first_once (IsProgram ed sources) is _ f g a b
+fault_once ed sources path is f g (of_program n m a) (of_program k l b) = at_first_once (IsMainPackage ed sources) is _ f g a b
 
-fault_or_sound : (ed : Edition) (sources : Sources) (path : List ℕ) (is : List Import) (f : Fault) → IsImportFault ed sources path is f → HasNone (HasNoFiles sources) is → HasNone (LeadsBack ed sources path) is → HasNone (IsProgram ed sources) is → ⊥
+fault_or_sound : (ed : Edition) (sources : Sources) (path : List ℕ) (is : List Import) (f : Fault) → IsImportFault ed sources path is f → HasNone (HasNoFiles sources) is → HasNone (LeadsBack ed sources path) is → HasNone (IsMainPackage ed sources) is → ⊥
 fault_or_sound ed sources path is f (of_missing a) n m l = none_else (HasNoFiles sources) is _ f a n
 fault_or_sound ed sources path is f (of_cycle k a) n m l = none_else (LeadsBack ed sources path) is _ f a m
-fault_or_sound ed sources path is f (of_program j k a) n m l = none_else (IsProgram ed sources) is _ f a l
+fault_or_sound ed sources path is f (of_program j k a) n m l = none_else (IsMainPackage ed sources) is _ f a l
 
 -- ---- directories
 

@@ -1,5 +1,5 @@
 -- Files have one plan, and writes with the same members one.
-use Rattle.std.proofs.Common.{◌≡◌, ℕ, Bool, true, false, List, [], ◌∷◌, ◌++◌, map, sym, ap, subst, ◌∙◌, refl, inl, inr}
+use Rattle.std.proofs.Common.{◌≡◌, ℕ, true, false, List, [], ◌∷◌, ◌++◌, map, sym, ap, subst, ◌∙◌, refl, inl, inr}
 use Rattle.go_text.specs.declared.edition.Edition.{Edition}
 use Rattle.go_text.specs.Faults.{Fault}
 use Rattle.go_text.specs.declared.place.Place.{Place}
@@ -11,7 +11,7 @@ use Rattle.ws_graph.specs.Packages.{package_files}
 use Rattle.ws_register.proofs.Laws.{same_sources}
 use Rattle.go_ast.specs.Trees.{Name, File}
 use Rattle.go_ast.specs.Parse.{Parse, Parsed, Derived, Stopped, IsParse, IsPackage, IsNamed, IsOther}
-use Rattle.ws_graph.specs.Plan.{Planned, NoFiles, Faulty, Sound, source_of, is_large, IsFileIn, Stops, AllParsed, AreParsed, AllNamed, StopsIn, DiffersIn, IsSound, IsPlan, IsPlanOf}
+use Rattle.ws_graph.specs.Plan.{Planned, NoFiles, Faulty, Sound, source_of_parsed, is_large, IsFileIn, Stops, AllParsed, AreParsed, AllNamed, StopsIn, DiffersIn, IsSound, IsPlan, IsPlanOf}
 use Rattle.go_ast.proofs.Once.{one_parse}
 
 -- a file's name and text
@@ -80,15 +80,15 @@ parsed_in : (ed : Edition) (p : Parsed) (in_it : IsFileIn ed p) → IsParse ed p
 parsed_in ed p in_it = subst (λ e. IsParse e p.text (Derived in_it.file)) in_it.of in_it.parse
 
 -- a text that stops is not among texts that parse
-no_stop : (ed : Edition) (front ps : List Parsed) (n t : List ℕ) (rest : List Pair) (kind : FaultKind) (place : Place) → map source_of ps ≡ map source_of front ++ (n, t) ∷ rest → AllParsed ed ps → Stops ed t kind place → ⊥
+no_stop : (ed : Edition) (front ps : List Parsed) (n t : List ℕ) (rest : List Pair) (kind : FaultKind) (place : Place) → map source_of_parsed ps ≡ map source_of_parsed front ++ (n, t) ∷ rest → AllParsed ed ps → Stops ed t kind place → ⊥
 no_stop ed [] [] n t rest kind place e all stops = cc
 no_stop ed [] (p ∷ ps) n t rest kind place e all stops =
-    let heads : source_of p ≡ (n, t) = cc in
+    let heads : source_of_parsed p ≡ (n, t) = cc in
     let texts : p.text ≡ t = ap (λ (s : Pair). s.1) heads in
     not_both ed t kind place all.0.file stops (subst (λ z. is_large ed z ≡ false) texts all.0.short) (subst (λ z. IsParse ed z (Derived all.0.file)) texts (parsed_in ed p all.0))
 no_stop ed (f ∷ front) [] n t rest kind place e all stops = cc
 no_stop ed (f ∷ front) (p ∷ ps) n t rest kind place e all stops =
-    let tails : map source_of ps ≡ map source_of front ++ (n, t) ∷ rest = cc in
+    let tails : map source_of_parsed ps ≡ map source_of_parsed front ++ (n, t) ∷ rest = cc in
     no_stop ed front ps n t rest kind place tails all.1 stops
 
 -- where the first texts stop is one place, for one fault
@@ -97,29 +97,29 @@ pub record SameStop (n m : List ℕ) (k l : FaultKind) (p q : Place) : Type 0 wh
   pub kinds : k ≡ l
   pub places : p ≡ q
 
-one_stop : (ed : Edition) (front back : List Parsed) (n t m s : List ℕ) (rest left : List Pair) (k l : FaultKind) (p q : Place) → map source_of front ++ (n, t) ∷ rest ≡ map source_of back ++ (m, s) ∷ left → AllParsed ed front → AllParsed ed back → Stops ed t k p → Stops ed s l q → SameStop n m k l p q
+one_stop : (ed : Edition) (front back : List Parsed) (n t m s : List ℕ) (rest left : List Pair) (k l : FaultKind) (p q : Place) → map source_of_parsed front ++ (n, t) ∷ rest ≡ map source_of_parsed back ++ (m, s) ∷ left → AllParsed ed front → AllParsed ed back → Stops ed t k p → Stops ed s l q → SameStop n m k l p q
 one_stop ed [] [] n t m s rest left k l p q e f b g h =
     let heads : ◌≡◌ {A = Pair} (n, t) (m, s) = cc in
     let there : Stops ed s k p = subst (λ z. Stops ed z k p) (ap (λ (z : Pair). z.1) heads) g in
     record { names = ap (λ (z : Pair). z.0) heads; kinds = kind_of_stop ed s k l p q there h; places = place_of_stop ed s k l p q there h }
 one_stop ed [] (x ∷ back) n t m s rest left k l p q e f b g h =
-    let heads : (n, t) ≡ source_of x = cc in
+    let heads : (n, t) ≡ source_of_parsed x = cc in
     absurd (not_both ed x.text k p b.0.file (subst (λ z. Stops ed z k p) (ap (λ (z : Pair). z.1) heads) g) b.0.short (parsed_in ed x b.0))
 one_stop ed (x ∷ front) [] n t m s rest left k l p q e f b g h =
-    let heads : source_of x ≡ (m, s) = cc in
+    let heads : source_of_parsed x ≡ (m, s) = cc in
     absurd (not_both ed x.text l q f.0.file (subst (λ z. Stops ed z l q) (sym (ap (λ (z : Pair). z.1) heads)) h) f.0.short (parsed_in ed x f.0))
 one_stop ed (x ∷ front) (y ∷ back) n t m s rest left k l p q e f b g h =
-    let tails : map source_of front ++ (n, t) ∷ rest ≡ map source_of back ++ (m, s) ∷ left = cc in
+    let tails : map source_of_parsed front ++ (n, t) ∷ rest ≡ map source_of_parsed back ++ (m, s) ∷ left = cc in
     one_stop ed front back n t m s rest left k l p q tails f.1 b.1 g h
 
 -- files of an edition parse to one list
-one_list : (ed : Edition) (ps qs : List Parsed) → AllParsed ed ps → AllParsed ed qs → map source_of ps ≡ map source_of qs → ps ≡ qs
+one_list : (ed : Edition) (ps qs : List Parsed) → AllParsed ed ps → AllParsed ed qs → map source_of_parsed ps ≡ map source_of_parsed qs → ps ≡ qs
 one_list ed [] [] g h e = refl
 one_list ed [] (q ∷ qs) g h e = cc
 one_list ed (p ∷ ps) [] g h e = cc
 one_list ed (p ∷ ps) (q ∷ qs) g h e =
-    let heads : source_of p ≡ source_of q = cc in
-    let tails : map source_of ps ≡ map source_of qs = cc in
+    let heads : source_of_parsed p ≡ source_of_parsed q = cc in
+    let tails : map source_of_parsed ps ≡ map source_of_parsed qs = cc in
     let names : p.name ≡ q.name = ap (λ (z : Pair). z.0) heads in
     let texts : p.text ≡ q.text = ap (λ (z : Pair). z.1) heads in
     let editions : p.edition ≡ q.edition = g.0.of ∙ sym h.0.of in
@@ -152,10 +152,10 @@ no_cons [] y ys e = cc
 no_cons (x ∷ xs) y ys e = cc
 
 none_stops : (ed : Edition) (files : List Pair) (fault : Fault) → files ≡ [] → StopsIn ed files fault → ⊥
-none_stops ed files fault e h = no_cons (map source_of h.front) (h.name, h.text) h.rest (sym e ∙ h.whole)
+none_stops ed files fault e h = no_cons (map source_of_parsed h.front) (h.name, h.text) h.rest (sym e ∙ h.whole)
 
 none_parsed : (ed : Edition) (files : List Pair) (p : Parsed) (ps : List Parsed) → files ≡ [] → AreParsed ed files (p ∷ ps) → ⊥
-none_parsed ed files p ps e h = let c : source_of p ∷ map source_of ps ≡ [] = h.sources ∙ e in cc
+none_parsed ed files p ps e h = let c : source_of_parsed p ∷ map source_of_parsed ps ≡ [] = h.sources ∙ e in cc
 
 stops_once : (ed : Edition) (files : List Pair) (f g : Fault) → StopsIn ed files f → StopsIn ed files g → f ≡ g
 stops_once ed files f g a b =

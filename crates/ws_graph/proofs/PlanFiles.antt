@@ -8,7 +8,7 @@ use Rattle.go_text.specs.declared.place.Place.{Place}
 use Rattle.go_text.specs.declared.fault.FaultKind.{FaultKind}
 use Rattle.ws_register.specs.Sources.{pair_of}
 use Rattle.go_ast.specs.Parse.{Parsed, IsNamed, IsOther}
-use Rattle.ws_graph.specs.Plan.{source_of, IsFileIn, Stops, AllParsed, AllNamed, HasOther, StopsIn}
+use Rattle.ws_graph.specs.Plan.{source_of_parsed, IsFileIn, Stops, AllParsed, AllNamed, HasOther, StopsIn}
 
 -- what is said of the parsed that are left is said of all
 pub record Leads (name : List ℕ) (left all : List Parsed) : Type 0 where
@@ -41,7 +41,7 @@ pub parsed_more : (ed : Edition) (ps : List Parsed) (p : Parsed) → AllParsed e
 parsed_more ed [] p h here = (here, tt)
 parsed_more ed (q ∷ ps) p h here = (h.0, parsed_more ed ps p h.1 here)
 
-pub stops_here : (ed : Edition) (front : List Parsed) (source : Source) (rest files : List Source) (fault : Fault) (kind : FaultKind) (place : Place) → map source_of front ++ map pair_of (source ∷ rest) ≡ map pair_of files → AllParsed ed front → Stops ed source.text kind place → fault ≡ record { file = source.name; place = place; kind = kind } → StopsIn ed (map pair_of files) fault
+pub stops_here : (ed : Edition) (front : List Parsed) (source : Source) (rest files : List Source) (fault : Fault) (kind : FaultKind) (place : Place) → map source_of_parsed front ++ map pair_of (source ∷ rest) ≡ map pair_of files → AllParsed ed front → Stops ed source.text kind place → fault ≡ record { file = source.name; place = place; kind = kind } → StopsIn ed (map pair_of files) fault
 stops_here ed front source rest files fault kind place whole parses stops is = record {
   front = front;
   name = source.name;
@@ -55,12 +55,12 @@ stops_here ed front source rest files fault kind place whole parses stops is = r
   is = is;
 }
 
-map_pushed : (ps : List Parsed) (p : Parsed) (rest : List (List ℕ × List ℕ)) → map source_of (ps ++ p ∷ []) ++ rest ≡ map source_of ps ++ source_of p ∷ rest
+map_pushed : (ps : List Parsed) (p : Parsed) (rest : List (List ℕ × List ℕ)) → map source_of_parsed (ps ++ p ∷ []) ++ rest ≡ map source_of_parsed ps ++ source_of_parsed p ∷ rest
 map_pushed [] p rest = refl
-map_pushed (q ∷ ps) p rest = ap (λ z. source_of q ∷ z) (map_pushed ps p rest)
+map_pushed (q ∷ ps) p rest = ap (λ z. source_of_parsed q ∷ z) (map_pushed ps p rest)
 
 -- one more file is parsed
-pub parsed_next : (ed : Edition) (ps new : List Parsed) (p : Parsed) (s : Source) (left rest files : List Source) → new ≡ ps ++ p ∷ [] → left ≡ s ∷ rest → source_of p ≡ pair_of s → IsFileIn ed p → (map source_of ps ++ map pair_of left ≡ map pair_of files) × AllParsed ed ps → (map source_of new ++ map pair_of rest ≡ map pair_of files) × AllParsed ed new
+pub parsed_next : (ed : Edition) (ps new : List Parsed) (p : Parsed) (s : Source) (left rest files : List Source) → new ≡ ps ++ p ∷ [] → left ≡ s ∷ rest → source_of_parsed p ≡ pair_of s → IsFileIn ed p → (map source_of_parsed ps ++ map pair_of left ≡ map pair_of files) × AllParsed ed ps → (map source_of_parsed new ++ map pair_of rest ≡ map pair_of files) × AllParsed ed new
 parsed_next ed ps new p s left rest files pushed taken is here h =
-    subst (λ z. (map source_of z ++ map pair_of rest ≡ map pair_of files) × AllParsed ed z) (sym pushed)
-    (map_pushed ps p (map pair_of rest) ∙ ap (λ z. map source_of ps ++ z ∷ map pair_of rest) is ∙ sym (ap (λ z. map source_of ps ++ map pair_of z) taken) ∙ h.0, parsed_more ed ps p h.1 here)
+    subst (λ z. (map source_of_parsed z ++ map pair_of rest ≡ map pair_of files) × AllParsed ed z) (sym pushed)
+    (map_pushed ps p (map pair_of rest) ∙ ap (λ z. map source_of_parsed ps ++ z ∷ map pair_of rest) is ∙ sym (ap (λ z. map source_of_parsed ps ++ map pair_of z) taken) ∙ h.0, parsed_more ed ps p h.1 here)

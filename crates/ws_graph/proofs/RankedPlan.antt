@@ -12,7 +12,7 @@ use Rattle.ws_reach.proofs.Closure.{IsOneOf, reach, reach_sound, reach_complete}
 use Rattle.go_text.specs.declared.edition.Edition.{Edition}
 use Rattle.ws_graph.specs.Plan.{Sound}
 use Rattle.ws_graph.specs.BuildPlan as plan
-use Rattle.ws_graph.specs.BuildPlan.{Sources, Import, Imports, ImportsAreSound, IsPlannedAs, Directory, paths_of, IsBuildPlanOf, AreRanks}
+use Rattle.ws_graph.specs.BuildPlan.{Sources, Import, Imports, IsPlannedAs, Directory, paths_of, IsBuildPlanOf, AreRanks}
 use Rattle.ws_graph.proofs.OneBuildPlan.{same_imports}
 use Rattle.ws_graph.proofs.Sorted.{one_of, contained}
 use Rattle.ws_graph.proofs.Wholes.{IsWhole, IsWholeOf, whole_plan_of}
@@ -134,7 +134,7 @@ module _ (ed : Edition) (sources : Sources) (ds : List Directory) (h : IsWhole e
       let lt = slice_get_within (paths_of ds) q there.0 there.1 in
       omega (arith, lt, length-paths ds)
 
-  numbers_lead : (steps : List ℕ) (p q : ℕ) (a b : List ℕ) → Walks (Goes ds) p steps q → slice_get (paths_of ds) p ≡ Some a → slice_get (paths_of ds) q ≡ Some b → plan.Reaches ed sources a b
+  numbers_lead : (steps : List ℕ) (p q : ℕ) (a b : List ℕ) → Walks (Goes ds) p steps q → slice_get (paths_of ds) p ≡ Some a → slice_get (paths_of ds) q ≡ Some b → plan.ReachesByImports ed sources a b
   numbers_lead [] p q a b w at_p at_q =
       let both : Some a ≡ Some b = sym at_p ∙ ap (slice_get (paths_of ds)) w ∙ at_q in
       let same : a ≡ b = cc in ([], same)
@@ -173,8 +173,8 @@ module _ (ed : Edition) (sources : Sources) (ds : List Directory) (h : IsWhole e
       let import = there.2.import in
       let same = same_imports ed sources d.path import.imports sound.1.imports import.has sound.1.has in
       let among : Contains sound.1.imports import.import = subst (λ (l : List Import). Contains l import.import) same import.among in
-      let reached : plan.Reaches ed sources there.0 d.path = numbers_lead back.0 j k there.0 d.path back.1 there.1 (path_at ds k d at) in
-      sound.1.none_leads_back import.import among (subst (λ x. plan.Reaches ed sources x d.path) (sym import.path) reached)
+      let reached : plan.ReachesByImports ed sources there.0 d.path = numbers_lead back.0 j k there.0 d.path back.1 there.1 (path_at ds k d at) in
+      sound.1.none_leads_back import.import among (subst (λ x. plan.ReachesByImports ed sources x d.path) (sym import.path) reached)
 
   rank : ℕ → ℕ
   rank k = count_by (reaches_by k) (below (length ds))

@@ -11,13 +11,13 @@ use Rattle.std.proofs.lemmas.Bool.{cases_lt}
 use Rattle.ws_version.specs.Writes.{path_cmp}
 use Rattle.ws_version.proofs.Writes.{path_cmp_total, path_cmp-IsAntisymmetric}
 use Rattle.ws_reach.proofs.Closure.{IsOneOf}
-use Rattle.ws_graph.specs.Discovery.{texts}
+use Rattle.ws_graph.specs.Discovery.{string_texts}
 use Rattle.ws_graph.proofs.Sorted.{one_of}
 
 abbrev Strings : Type 0
 Strings = List (String Global)
 
-texts_get : (all : Strings) (k : ℕ) (s : String Global) → slice_get all k ≡ Some s → slice_get (texts all) k ≡ Some (string_bytes s)
+texts_get : (all : Strings) (k : ℕ) (s : String Global) → slice_get all k ≡ Some s → slice_get (string_texts all) k ≡ Some (string_bytes s)
 texts_get [] k s at = cc (at)
 texts_get (x ∷ xs) zero s at = (let e : Some x ≡ Some s = at in let same : x ≡ s = cc in ap (λ z. Some (string_bytes z)) same)
 texts_get (x ∷ xs) (suc k) s at = texts_get xs k s at
@@ -27,7 +27,7 @@ item_at [] k lt = absurd (omega (arith, lt))
 item_at (x ∷ xs) zero lt = (x, refl, λ d. refl)
 item_at (x ∷ xs) (suc k) lt = item_at xs k (omega (arith, lt))
 
-pub found_there : (all : Strings) (path : List ℕ) (k : ℕ) → IsSearchInRange (Ok k) (length all) → IsBinarySearchResult (λ s. path_cmp (string_bytes s) path) all (Ok k) → slice_get (texts all) k ≡ Some path
+pub found_there : (all : Strings) (path : List ℕ) (k : ℕ) → IsSearchInRange (Ok k) (length all) → IsBinarySearchResult (λ s. path_cmp (string_bytes s) path) all (Ok k) → slice_get (string_texts all) k ≡ Some path
 found_there all path k inside is =
     let s = item_at all k inside in
     let equal : path_cmp (string_bytes s.0) path ≡ Equal = ap (λ z. path_cmp (string_bytes z) path) (sym (s.2 s.0)) ∙ is s.0 in
@@ -55,12 +55,12 @@ by_orderings x y path Greater Equal l e f =
     let wrong : Less ≡ Greater = sym less ∙ e in cc (wrong)
 by_orderings x y path Greater Greater l e f = omega arith
 
-less_at : (P : List ℕ → Type 0) (all : Strings) → AllByRecursion P (texts all) → (j : ℕ) → j < length all → (d : String Global) → P (string_bytes (get_or all j d))
+less_at : (P : List ℕ → Type 0) (all : Strings) → AllByRecursion P (string_texts all) → (j : ℕ) → j < length all → (d : String Global) → P (string_bytes (get_or all j d))
 less_at P [] h j lt d = absurd (omega (arith, lt))
 less_at P (x ∷ xs) h zero lt d = h.0
 less_at P (x ∷ xs) h (suc j) lt d = less_at P xs h.1 j (omega (arith, lt)) d
 
-rises : (all : Strings) (path : List ℕ) → IsStrictlySortedBy path_cmp (texts all) → (i j : ℕ) (d : String Global) → i ≤ j → j < length all → ordering_index (path_cmp (string_bytes (get_or all i d)) path) ≤ ordering_index (path_cmp (string_bytes (get_or all j d)) path)
+rises : (all : Strings) (path : List ℕ) → IsStrictlySortedBy path_cmp (string_texts all) → (i j : ℕ) (d : String Global) → i ≤ j → j < length all → ordering_index (path_cmp (string_bytes (get_or all i d)) path) ≤ ordering_index (path_cmp (string_bytes (get_or all j d)) path)
 unfolding IsStrictlySortedBy
 rises [] path sorted i j d le lt = absurd (omega (arith, lt))
 rises (x ∷ xs) path sorted zero zero d le lt = omega arith
@@ -71,7 +71,7 @@ rises (x ∷ xs) path sorted (suc i) zero d le lt = absurd (omega (arith, le))
 rises (x ∷ xs) path sorted (suc i) (suc j) d le lt = rises xs path sorted.1 i j d (omega (arith, le)) (omega (arith, lt))
 
 -- the string of a text
-of_text : (all : Strings) (path : List ℕ) → IsOneOf path (texts all) → (k : ℕ) × (k < length all) × ((d : String Global) → string_bytes (get_or all k d) ≡ path)
+of_text : (all : Strings) (path : List ℕ) → IsOneOf path (string_texts all) → (k : ℕ) × (k < length all) × ((d : String Global) → string_bytes (get_or all k d) ≡ path)
 of_text [] path h = absurd h
 of_text (x ∷ xs) path (inl e) = (0, omega arith, λ d. sym e)
 of_text (x ∷ xs) path (inr h) = let m = of_text xs path h in (suc m.0, (let lt = m.1 in omega (arith, lt)), m.2)
@@ -84,9 +84,9 @@ itself p = go (path_cmp p p) refl
     go Equal e = e
     go Greater e = (let wrong : Greater ≡ Less = sym e ∙ path_cmp_total.antisymm p p ∙ ap ordering_reverse e in cc (wrong))
 
-pub not_there : (all : Strings) (path : List ℕ) (k : ℕ) → IsStrictlySortedBy path_cmp (texts all) → IsBinarySearchResult (λ s. path_cmp (string_bytes s) path) all (Err k) → Contains (texts all) path → ⊥
+pub not_there : (all : Strings) (path : List ℕ) (k : ℕ) → IsStrictlySortedBy path_cmp (string_texts all) → IsBinarySearchResult (λ s. path_cmp (string_bytes s) path) all (Err k) → Contains (string_texts all) path → ⊥
 not_there all path k sorted is c =
-    let m = of_text all path (one_of (texts all) path c) in
+    let m = of_text all path (one_of (string_texts all) path c) in
     let parted = is (rises all path sorted) in
     let s = item_at all m.0 m.1 in
     let equal : path_cmp (string_bytes (get_or all m.0 s.0)) path ≡ Equal = ap (λ z. path_cmp z path) (m.2 s.0) ∙ itself path in

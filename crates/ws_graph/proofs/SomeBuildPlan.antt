@@ -25,7 +25,7 @@ use Rattle.ws_reach.proofs.Closure.{IsOneOf, reach, reach_sound, reach_complete}
 use Rattle.ws_graph.specs.Packages.{package_files}
 use Rattle.ws_graph.specs.Plan.{Planned, NoFiles, Faulty, Sound, AllParsed, AreParsed, IsPlan, IsPlanOf}
 use Rattle.ws_graph.specs.BuildPlan as plan
-use Rattle.ws_graph.specs.BuildPlan.{Sources, Import, imports_in, AreImports, HasImports, HasImport, HasNone, IsAtFirst, HasNoFiles, Imports, LeadsBack, IsProgram, IsImportFault, of_missing, of_cycle, of_program, ImportFault, ImportsAreSound, IsPlannedAs, Directory, paths_of, AreNumbers, IsBuildPlan, IsBuildPlanOf}
+use Rattle.ws_graph.specs.BuildPlan.{Sources, Import, directory_imports, AreDirectoryImports, HasImports, HasImport, HasNone, IsAtFirst, HasNoFiles, Imports, LeadsBack, IsMainPackage, of_missing, of_cycle, of_program, IsPlannedAs, Directory, paths_of, AreNumbers, IsBuildPlan, IsBuildPlanOf}
 use Rattle.ws_graph.proofs.OnePlan.{one_plan, one_parsed, one_package, stops_or_parses}
 use Rattle.ws_graph.proofs.OneBuildPlan.{same_imports}
 use Rattle.ws_graph.proofs.Filed.{built_directories, to_directory, has_files}
@@ -263,9 +263,9 @@ right_holds : (a b : Bool) → (a && b) ≡ true → b ≡ true
 right_holds true b e = e
 right_holds false b e = cc (e)
 
-some_imports : (ed : Edition) (ps : List Parsed) → AllParsed ed ps → (is : List Import) × AreImports ps is
+some_imports : (ed : Edition) (ps : List Parsed) → AllParsed ed ps → (is : List Import) × AreDirectoryImports ps is
 some_imports ed [] h = ([], refl)
-some_imports ed (p ∷ ps) h = let rest = some_imports ed ps h.1 in (imports_in p.name h.0.file.imports ++ rest.0, (h.0.file, rest.0, h.0.parse, rest.1, refl))
+some_imports ed (p ∷ ps) h = let rest = some_imports ed ps h.1 in (directory_imports p.name h.0.file.imports ++ rest.0, (h.0.file, rest.0, h.0.parse, rest.1, refl))
 
 module _ (ed : Edition) (sources : Sources) where
   Known : List ℕ → Type 0
@@ -327,13 +327,13 @@ module _ (ed : Edition) (sources : Sources) where
   decide_back : (path : List ℕ) (q : List ℕ) → LeadsBack ed sources path q ⊎ (LeadsBack ed sources path q → ⊥)
   decide_back path q = by_bool q path (reaches q path) refl
 
-  main_or_not : (q : List ℕ) (first : Parsed) (rest : List Parsed) → AreParsed ed (package_files q sources) (first ∷ rest) → IsProgram ed sources q ⊎ (IsProgram ed sources q → ⊥)
+  main_or_not : (q : List ℕ) (first : Parsed) (rest : List Parsed) → AreParsed ed (package_files q sources) (first ∷ rest) → IsMainPackage ed sources q ⊎ (IsMainPackage ed sources q → ⊥)
   main_or_not q first rest a = go (bytes_eq a.parses.0.file.package.text (codes "main")) refl
     where
       clause_is : IsPackage first.edition first.text a.parses.0.file.package
       clause_is = (a.parses.0.file, a.parses.0.parse, refl)
 
-      go : (b : Bool) → bytes_eq a.parses.0.file.package.text (codes "main") ≡ b → IsProgram ed sources q ⊎ (IsProgram ed sources q → ⊥)
+      go : (b : Bool) → bytes_eq a.parses.0.file.package.text (codes "main") ≡ b → IsMainPackage ed sources q ⊎ (IsMainPackage ed sources q → ⊥)
       go true e = inl (record { first = first; rest = rest; parses = a; named = record { clause = a.parses.0.file.package; package_is = clause_is; same = (bytes_eq-Decides a.parses.0.file.package.text (codes "main")).0 e } })
       go false e = inr (λ h.
           let lists : h.first ∷ h.rest ≡ first ∷ rest = one_parsed ed (package_files q sources) (h.first ∷ h.rest) (first ∷ rest) h.parses a in
@@ -342,26 +342,26 @@ module _ (ed : Edition) (sources : Sources) where
           let t = (bytes_eq-Decides a.parses.0.file.package.text (codes "main")).1 (sym (ap (λ n. n.text) clause) ∙ h.named.same) in
           let z : true ≡ false = sym t ∙ e in cc (z))
 
-  program_by : (q : List ℕ) → Read ed (package_files q sources) → IsProgram ed sources q ⊎ (IsProgram ed sources q → ⊥)
+  program_by : (q : List ℕ) → Read ed (package_files q sources) → IsMainPackage ed sources q ⊎ (IsMainPackage ed sources q → ⊥)
   program_by q (inl ([], a)) = inr (λ h. (let z : [] ≡ h.first ∷ h.rest = one_parsed ed (package_files q sources) [] (h.first ∷ h.rest) a h.parses in cc (z)))
   program_by q (inl (first ∷ rest, a)) = main_or_not q first rest a
   program_by q (inr stop) = inr (λ h. stops_or_parses ed (package_files q sources) stop.0 (h.first ∷ h.rest) stop.1 h.parses)
 
-  decide_program : (q : List ℕ) → IsProgram ed sources q ⊎ (IsProgram ed sources q → ⊥)
+  decide_program : (q : List ℕ) → IsMainPackage ed sources q ⊎ (IsMainPackage ed sources q → ⊥)
   decide_program q = program_by q (read ed (package_files q sources))
 
   abbrev Right : List ℕ → Type 0
   Right path = (planned : Planned) × ((HasNoFiles sources path → ⊥) → IsPlannedAs ed sources path planned)
 
   right_program : (path : List ℕ) (parsed : List Parsed) (h : IsPlan ed (package_files path sources) (Sound parsed)) (is : List Import) → HasImports ed sources path is → HasNone (HasNoFiles sources) is → HasNone (LeadsBack ed sources path) is
-      → ((fault : Fault) × IsAtFirst (IsProgram ed sources) is Program fault) ⊎ HasNone (IsProgram ed sources) is → Right path
+      → ((fault : Fault) × IsAtFirst (IsMainPackage ed sources) is Program fault) ⊎ HasNone (IsMainPackage ed sources) is → Right path
   right_program path parsed h is has n m (inl (fault, a)) = (Faulty fault, λ _. inr (record { imports = is; has = has; is = of_program n m a }))
   right_program path parsed h is has n m (inr l) = (Sound parsed, λ _. (h, record { imports = is; has = has; none_missing = n; none_leads_back = m; none_program = l }))
 
   right_cycle : (path : List ℕ) (parsed : List Parsed) (h : IsPlan ed (package_files path sources) (Sound parsed)) (is : List Import) → HasImports ed sources path is → HasNone (HasNoFiles sources) is
       → ((fault : Fault) × IsAtFirst (LeadsBack ed sources path) is Cycle fault) ⊎ HasNone (LeadsBack ed sources path) is → Right path
   right_cycle path parsed h is has n (inl (fault, a)) = (Faulty fault, λ _. inr (record { imports = is; has = has; is = of_cycle n a }))
-  right_cycle path parsed h is has n (inr m) = right_program path parsed h is has n m (decide_first (IsProgram ed sources) decide_program Program is)
+  right_cycle path parsed h is has n (inr m) = right_program path parsed h is has n m (decide_first (IsMainPackage ed sources) decide_program Program is)
 
   right_missing : (path : List ℕ) (parsed : List Parsed) (h : IsPlan ed (package_files path sources) (Sound parsed)) (is : List Import) → HasImports ed sources path is
       → ((fault : Fault) × IsAtFirst (HasNoFiles sources) is NoImport fault) ⊎ HasNone (HasNoFiles sources) is → Right path
@@ -445,7 +445,7 @@ module _ (ed : Edition) (sources : Sources) where
           record {
             files = files;
             ascending = subst (IsStrictlySortedBy path_cmp) (sym same) ascends;
-            reached = subst (λ (ps : List (List ℕ)). (q : List ℕ) → (Contains ps q → plan.Reaches ed sources target q) × (plan.Reaches ed sources target q → Contains ps q)) (sym same) (λ q. (reached_one q, one_reached q));
+            reached = subst (λ (ps : List (List ℕ)). (q : List ℕ) → (Contains ps q → plan.ReachesByImports ed sources target q) × (plan.ReachesByImports ed sources target q → Contains ps q)) (sym same) (λ q. (reached_one q, one_reached q));
             planned = made_right;
             imports = subst (λ (ps : List (List ℕ)). (d : Directory) → Contains all_made d → AreNumbers ed sources ps d.path d.imports) (sym same) made_numbers;
           },

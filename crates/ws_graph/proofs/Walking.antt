@@ -12,7 +12,7 @@ use Rattle.ws_reach.specs.Reach.{Walks}
 use Rattle.ws_reach.proofs.Reached.{reaches_itself, reaches_more}
 use Rattle.ws_reach.proofs.Closure.{IsOneOf}
 use Rattle.go_text.specs.declared.edition.Edition.{Edition}
-use Rattle.ws_graph.specs.BuildPlan.{Sources, HasNoFiles, Imports, ReachedFrom}
+use Rattle.ws_graph.specs.BuildPlan.{Sources, HasNoFiles, Imports, IsReachedFromTargets}
 use Rattle.ws_graph.specs.Node.{planned_of}
 use Rattle.ws_graph.specs.Discovery.{Met, met_paths, waiting_paths, AreWaiting, IsReadAs, AreRead, IsFound, Walking, TakesWave, AddsImported, IsNextWave, AreAll}
 use Rattle.ws_graph.specs.declared.wave.Found.{Found}
@@ -39,7 +39,7 @@ taken ed sources targets old new path found waiting imported more w is put adds 
   ];
   reached = λ q h. elim h [
     | inl m ↦ elim (to q m) [
-      | inl same ↦ subst (ReachedFrom ed sources targets) (sym same) here
+      | inl same ↦ subst (IsReachedFromTargets ed sources targets) (sym same) here
       | inr o ↦ w.reached q (inl o)
     ]
     | inr c ↦ w.reached q (inr (contained (string_bytes path ∷ waiting) q (inr (one_of waiting q c))))
@@ -65,7 +65,7 @@ taken ed sources targets old new path found waiting imported more w is put adds 
   ];
 }
   where
-    here : ReachedFrom ed sources targets (string_bytes path)
+    here : IsReachedFromTargets ed sources targets (string_bytes path)
     here = w.reached (string_bytes path) (inr (contained (string_bytes path ∷ waiting) (string_bytes path) (inl refl)))
 
     to : (q : Path) → Contains (met_paths new) q → (q ≡ string_bytes path) ⊎ Contains (met_paths old) q

@@ -34,19 +34,19 @@ abbrev pub names_directory : ImportSpec → Bool
 names_directory spec = not (bytes_eq spec.path (codes "fmt"))
 
 -- those of a file's imports that name directories, in the order of its text
-abbrev pub imports_in : List ℕ → List ImportSpec → List Import
-imports_in name specs = map (λ spec. record { file = name; spec = spec }) (filter names_directory specs)
+abbrev pub directory_imports : List ℕ → List ImportSpec → List Import
+directory_imports name specs = map (λ spec. record { file = name; spec = spec }) (filter names_directory specs)
 
 -- the imports of directories in some files, in their order
-abbrev pub AreImports : List Parsed → List Import → Type 0
-AreImports [] imports = imports ≡ []
-AreImports (p ∷ ps) imports = (file : File) × (rest : List Import) × IsParse p.edition p.text (Derived file) × AreImports ps rest × (imports ≡ imports_in p.name file.imports ++ rest)
+abbrev pub AreDirectoryImports : List Parsed → List Import → Type 0
+AreDirectoryImports [] imports = imports ≡ []
+AreDirectoryImports (p ∷ ps) imports = (file : File) × (rest : List Import) × IsParse p.edition p.text (Derived file) × AreDirectoryImports ps rest × (imports ≡ directory_imports p.name file.imports ++ rest)
 
 -- the directory's own files have no fault, and these are their imports of directories
 pub record HasImports (edition : Edition) (sources : Sources) (path : List ℕ) (imports : List Import) : Type 0 where
   pub parsed : List Parsed
   pub sound : IsPlan edition (package_files path sources) (Sound parsed)
-  pub are : AreImports parsed imports
+  pub are : AreDirectoryImports parsed imports
 
 -- one of the imports of the directory p is of the path q
 pub record HasImport (edition : Edition) (sources : Sources) (p q : List ℕ) : Type 0 where
@@ -66,11 +66,11 @@ pub record Imports (edition : Edition) (sources : Sources) (p q : List ℕ) : Ty
   pub files : ¬ (HasNoFiles sources q)
 
 -- q is p, or p imports it, or p imports one that reaches it
-abbrev pub Reaches : Edition → Sources → List ℕ → List ℕ → Type 0
-Reaches edition sources p q = reach.Reaches (Imports edition sources) p q
+abbrev pub ReachesByImports : Edition → Sources → List ℕ → List ℕ → Type 0
+ReachesByImports edition sources p q = reach.Reaches (Imports edition sources) p q
 
 -- the files of the directory all parse, and the first one's package is named main
-pub record IsProgram (edition : Edition) (sources : Sources) (path : List ℕ) : Type 0 where
+pub record IsMainPackage (edition : Edition) (sources : Sources) (path : List ℕ) : Type 0 where
   pub first : Parsed
   pub rest : List Parsed
   pub parses : AreParsed edition (package_files path sources) (first ∷ rest)
@@ -94,13 +94,13 @@ pub record IsAtFirst (P : List ℕ → Type 0) (imports : List Import) (kind : F
 
 -- what is imported reaches the directory that imports it
 abbrev pub LeadsBack : Edition → Sources → List ℕ → List ℕ → Type 0
-LeadsBack edition sources path imported = Reaches edition sources imported path
+LeadsBack edition sources path imported = ReachesByImports edition sources imported path
 
 -- The fault of a directory with these imports: at the first that has no files; else at the first that leads back; else at the first program.
 pub data IsImportFault (edition : Edition) (sources : Sources) (path : List ℕ) (imports : List Import) (fault : Fault) : Type 0 where
   of_missing : IsAtFirst (HasNoFiles sources) imports NoImport fault → IsImportFault edition sources path imports fault
   of_cycle : HasNone (HasNoFiles sources) imports → IsAtFirst (LeadsBack edition sources path) imports Cycle fault → IsImportFault edition sources path imports fault
-  of_program : HasNone (HasNoFiles sources) imports → HasNone (LeadsBack edition sources path) imports → IsAtFirst (IsProgram edition sources) imports Program fault → IsImportFault edition sources path imports fault
+  of_program : HasNone (HasNoFiles sources) imports → HasNone (LeadsBack edition sources path) imports → IsAtFirst (IsMainPackage edition sources) imports Program fault → IsImportFault edition sources path imports fault
 
 -- the directory's own files are sound, and its imports have this fault
 pub record ImportFault (edition : Edition) (sources : Sources) (path : List ℕ) (fault : Fault) : Type 0 where
@@ -114,7 +114,7 @@ pub record ImportsAreSound (edition : Edition) (sources : Sources) (path : List 
   pub has : HasImports edition sources path imports
   pub none_missing : HasNone (HasNoFiles sources) imports
   pub none_leads_back : HasNone (LeadsBack edition sources path) imports
-  pub none_program : HasNone (IsProgram edition sources) imports
+  pub none_program : HasNone (IsMainPackage edition sources) imports
 
 -- ---- the plan
 
@@ -142,7 +142,7 @@ pub record AreNumbers (edition : Edition) (sources : Sources) (paths : List (Lis
 pub record IsBuildPlan (edition : Edition) (sources : Sources) (target : List ℕ) (directories : List Directory) : Type 0 where
   pub files : ¬ (HasNoFiles sources target)
   pub ascending : IsStrictlySortedBy path_cmp (paths_of directories)
-  pub reached : (path : List ℕ) → Contains (paths_of directories) path ↔ Reaches edition sources target path
+  pub reached : (path : List ℕ) → Contains (paths_of directories) path ↔ ReachesByImports edition sources target path
   pub planned : (d : Directory) → Contains directories d → IsPlannedAs edition sources d.path d.planned
   pub imports : (d : Directory) → Contains directories d → AreNumbers edition sources (paths_of directories) d.path d.imports
 
@@ -151,14 +151,14 @@ abbrev pub IsBuildPlanOf : Edition → List Write → List ℕ → List Director
 IsBuildPlanOf edition writes target directories = (sources : Sources) × IsSources writes sources × IsBuildPlan edition sources target directories
 
 -- one of the targets reaches the directory
-abbrev pub ReachedFrom : Edition → Sources → List (List ℕ) → List ℕ → Type 0
-ReachedFrom edition sources targets path = (target : List ℕ) × Contains targets target × Reaches edition sources target path
+abbrev pub IsReachedFromTargets : Edition → Sources → List (List ℕ) → List ℕ → Type 0
+IsReachedFromTargets edition sources targets path = (target : List ℕ) × Contains targets target × ReachesByImports edition sources target path
 
 -- The joint plan of some targets has each directory that one of them reaches, once. They have none where one of them has no files.
 pub record IsJointPlan (edition : Edition) (sources : Sources) (targets : List (List ℕ)) (directories : List Directory) : Type 0 where
   pub files : (target : List ℕ) → Contains targets target → ¬ (HasNoFiles sources target)
   pub ascending : IsStrictlySortedBy path_cmp (paths_of directories)
-  pub reached : (path : List ℕ) → Contains (paths_of directories) path ↔ ReachedFrom edition sources targets path
+  pub reached : (path : List ℕ) → Contains (paths_of directories) path ↔ IsReachedFromTargets edition sources targets path
   pub planned : (d : Directory) → Contains directories d → IsPlannedAs edition sources d.path d.planned
   pub imports : (d : Directory) → Contains directories d → AreNumbers edition sources (paths_of directories) d.path d.imports
 

@@ -20,8 +20,8 @@ use Rattle.ws_version.specs.Writes.{Write, path_cmp}
 use Rattle.ws_register.specs.Edits.{Contents}
 use Rattle.ws_register.specs.Sources.{texts_of, pair_of, IsSources}
 use Rattle.ws_graph.specs.Packages.{package_files}
-use Rattle.ws_graph.specs.Plan.{Planned, NoFiles, Faulty, Sound, IsFileIn, Stops, IsPlan, source_of}
-use Rattle.ws_graph.specs.BuildPlan.{Sources, Import, imports_in, AreImports, IsJointPlan, Directory, HasImport, HasNoFiles, IsProgram, Imports, ReachedFrom}
+use Rattle.ws_graph.specs.Plan.{Planned, NoFiles, Faulty, Sound, IsFileIn, Stops, IsPlan, source_of_parsed}
+use Rattle.ws_graph.specs.BuildPlan.{Sources, Import, directory_imports, AreDirectoryImports, IsJointPlan, Directory, HasImport, HasNoFiles, IsMainPackage, Imports, IsReachedFromTargets}
 use Rattle.ws_graph.specs.Node.{planned_of}
 use Rattle.ws_graph.specs.declared.target.Target.{Target}
 use Rattle.ws_graph.specs.declared.wave.Found.{Found}
@@ -34,8 +34,8 @@ use Rattle.ws_graph.specs.declared.link.Links.{Links}
 abbrev pub held_sources : Contents → Sources
 held_sources m = texts_of (entries m)
 
-abbrev pub texts : List (String Global) → List (List ℕ)
-texts = map string_bytes
+abbrev pub string_texts : List (String Global) → List (List ℕ)
+string_texts = map string_bytes
 
 -- the number of a path among some
 abbrev pub IsNumber : List (List ℕ) → List ℕ → Option ℕ → Type 0
@@ -55,7 +55,7 @@ AreTargets all = AllZip (IsTarget all)
 -- of the imports of some files
 pub record HaveTargets (all : List (List ℕ)) (parsed : List Parsed) (targets : List Target) : Type 0 where
   pub imports : List Import
-  pub are : AreImports parsed imports
+  pub are : AreDirectoryImports parsed imports
   pub targets_are : AreTargets all imports targets
 
 -- of what becomes of a directory's own files: where they have a fault there are none
@@ -71,10 +71,10 @@ HasNumber targets k = (t : Target) × Contains targets t × (t.number ≡ Some k
 -- what becomes of a directory's own files, and whether it is a program
 pub record IsFound (edition : Edition) (sources : Sources) (path : List ℕ) (found : Found) : Type 0 where
   pub plan : IsPlan edition (package_files path sources) (planned_of found.node)
-  pub program : IsTrue found.program ↔ IsProgram edition sources path
+  pub program : IsTrue found.program ↔ IsMainPackage edition sources path
 
 -- an import leads from one number to another
-pub record Leads (edition : Edition) (sources : Sources) (all : List (List ℕ)) (p q : ℕ) : Type 0 where
+pub record ImportLeads (edition : Edition) (sources : Sources) (all : List (List ℕ)) (p q : ℕ) : Type 0 where
   pub from : List ℕ
   pub to : List ℕ
   pub at_from : slice_get all p ≡ Some from
@@ -103,8 +103,8 @@ pub record IsFirst (P : Option ℕ → Type 0) (targets : List Target) (target :
   pub before : NoneHas P front
   pub holds : P target.number
 
-abbrev pub fault_at : Target → FaultKind → Fault
-fault_at target kind = record { file = string_bytes target.file; place = target.place; kind = kind }
+abbrev pub target_fault : Target → FaultKind → Fault
+target_fault target kind = record { file = string_bytes target.file; place = target.place; kind = kind }
 
 -- the targets of these imports are added
 abbrev pub AddsTargets : List (List ℕ) → List Import → List Target → List Target → Type 0
@@ -114,14 +114,14 @@ AddsTargets all imports old new = (more : List Target) × (new ≡ old ++ more) 
 
 -- a source is parsed to this
 abbrev pub IsFileOf : Edition → Source → Parsed → Type 0
-IsFileOf edition source p = (source_of p ≡ pair_of source) × IsFileIn edition p
+IsFileOf edition source p = (source_of_parsed p ≡ pair_of source) × IsFileIn edition p
 
 -- a source stops being a file at the fault's place
 abbrev pub StopsAs : Edition → Source → Fault → Type 0
 StopsAs edition source fault = (kind : FaultKind) × (place : Place) × Stops edition source.text kind place × (fault ≡ record { file = source.name; place = place; kind = kind })
 
 -- what a source comes to
-pub record ComesTo (edition : Edition) (source : Source) (result : Result Parsed FileError) : Type 0 where
+pub record ParsesTo (edition : Edition) (source : Source) (result : Result Parsed FileError) : Type 0 where
   pub parsed : IfOk result (IsFileOf edition source)
   pub stopped : (fault : Fault) → result ≡ Err (Stopped fault) → StopsAs edition source fault
 
@@ -164,13 +164,13 @@ abbrev pub Met : Type 0
 Met = List (String Global × Found)
 
 abbrev pub met_paths : Met → List (List ℕ)
-met_paths met = texts (keys_of met)
+met_paths met = string_texts (keys_of met)
 
 -- A walk under way: directories were read, others wait, and further paths are imported by those that were read.
 pub record Walking (edition : Edition) (sources : Sources) (targets : List (List ℕ)) (met : Met) (waiting imported : List (List ℕ)) : Type 0 where
   pub first : (target : List ℕ) → Contains targets target → Contains (met_paths met) target ⊎ Contains waiting target
-  pub reached : (path : List ℕ) → Contains (met_paths met) path ⊎ Contains waiting path → ReachedFrom edition sources targets path
-  pub from : (path : List ℕ) → Contains imported path → (p : List ℕ) × ReachedFrom edition sources targets p × HasImport edition sources p path
+  pub reached : (path : List ℕ) → Contains (met_paths met) path ⊎ Contains waiting path → IsReachedFromTargets edition sources targets path
+  pub from : (path : List ℕ) → Contains imported path → (p : List ℕ) × IsReachedFromTargets edition sources targets p × HasImport edition sources p path
   pub closed : (p q : List ℕ) → Contains (met_paths met) p → Imports edition sources p q → Contains (met_paths met) q ⊎ (Contains waiting q ⊎ Contains imported q)
   pub founds : (e : String Global × Found) → Contains met e → IsFound edition sources (string_bytes e.0) e.1
 
@@ -220,7 +220,7 @@ pub record IsNextWave (sources : Sources) (met imported : List (List ℕ)) (wave
 
 -- the imports of a file lead to these targets, which are added
 abbrev pub AddsFile : List (List ℕ) → Parsed → List Target → List Target → Type 0
-AddsFile all file old new = (tree : File) × IsParse file.edition file.text (Derived tree) × AddsTargets all (imports_in file.name tree.imports) old new
+AddsFile all file old new = (tree : File) × IsParse file.edition file.text (Derived tree) × AddsTargets all (directory_imports file.name tree.imports) old new
 
 -- the files of a directory's package, for a set of writes
 abbrev pub AreFilesOf : List Write → List ℕ → Sources → Type 0
@@ -230,7 +230,7 @@ AreFilesOf writes directory files = (sources : Sources) × IsSources writes sour
 pub record AreAll (edition : Edition) (sources : Sources) (targets : List (List ℕ)) (paths : List (List ℕ)) (founds : List Found) : Type 0 where
   pub files : (target : List ℕ) → Contains targets target → ¬ (HasNoFiles sources target)
   pub ascending : IsStrictlySortedBy path_cmp paths
-  pub reached : (path : List ℕ) → Contains paths path ↔ ReachedFrom edition sources targets path
+  pub reached : (path : List ℕ) → Contains paths path ↔ IsReachedFromTargets edition sources targets path
   pub founds_are : AllZip (IsFound edition sources) paths founds
 
 -- where paths and what was found are those of targets, this is the plan of their build
@@ -265,9 +265,9 @@ pub record AreLinks (paths : List (List ℕ)) (founds : List Found) (links : Lin
 
 -- the fault of these targets stands at this one
 pub data IsFaultAt (closing : List (List ℕ)) (programs : List Bool) (here : ℕ) (targets : List Target) (target : Target) (fault : Fault) : Type 0 where
-  of_missing : IsFirst (HasFault closing programs here kinds.NoImport) targets target → fault ≡ fault_at target kinds.NoImport → IsFaultAt closing programs here targets target fault
-  of_cycle : NoneHas (HasFault closing programs here kinds.NoImport) targets → IsFirst (HasFault closing programs here kinds.Cycle) targets target → fault ≡ fault_at target kinds.Cycle → IsFaultAt closing programs here targets target fault
-  of_program : NoneHas (HasFault closing programs here kinds.NoImport) targets → NoneHas (HasFault closing programs here kinds.Cycle) targets → IsFirst (HasFault closing programs here kinds.Program) targets target → fault ≡ fault_at target kinds.Program → IsFaultAt closing programs here targets target fault
+  of_missing : IsFirst (HasFault closing programs here kinds.NoImport) targets target → fault ≡ target_fault target kinds.NoImport → IsFaultAt closing programs here targets target fault
+  of_cycle : NoneHas (HasFault closing programs here kinds.NoImport) targets → IsFirst (HasFault closing programs here kinds.Cycle) targets target → fault ≡ target_fault target kinds.Cycle → IsFaultAt closing programs here targets target fault
+  of_program : NoneHas (HasFault closing programs here kinds.NoImport) targets → NoneHas (HasFault closing programs here kinds.Cycle) targets → IsFirst (HasFault closing programs here kinds.Program) targets target → fault ≡ target_fault target kinds.Program → IsFaultAt closing programs here targets target fault
 
 -- the fault of a directory's targets, or none: of the first that leads nowhere; else of the first that closes a cycle; else of the first program
 abbrev pub TargetFault : List (List ℕ) → List Bool → ℕ → List Target → Option Fault → Type 0

@@ -18,8 +18,8 @@ pub data Planned : Type 0 where
   Faulty : Fault → Planned
   Sound : List Parsed → Planned
 
-abbrev pub source_of : Parsed → List ℕ × List ℕ
-source_of p = (p.name, p.text)
+abbrev pub source_of_parsed : Parsed → List ℕ × List ℕ
+source_of_parsed p = (p.name, p.text)
 
 -- the text is longer than the edition allows
 abbrev pub is_large : Edition → List ℕ → Bool
@@ -39,7 +39,7 @@ AllParsed edition (p ∷ ps) = IsFileIn edition p × AllParsed edition ps
 
 -- in an edition the files parse to these
 pub record AreParsed (edition : Edition) (files : List (List ℕ × List ℕ)) (parsed : List Parsed) : Type 0 where
-  pub sources : map source_of parsed ≡ files
+  pub sources : map source_of_parsed parsed ≡ files
   pub parses : AllParsed edition parsed
 
 -- all have this package name
@@ -70,7 +70,7 @@ pub record StopsIn (edition : Edition) (files : List (List ℕ × List ℕ)) (fa
   pub rest : List (List ℕ × List ℕ)
   pub kind : FaultKind
   pub place : Place
-  pub whole : files ≡ map source_of front ++ (name, text) ∷ rest
+  pub whole : files ≡ map source_of_parsed front ++ (name, text) ∷ rest
   pub parses : AllParsed edition front
   pub stops : Stops edition text kind place
   pub is : fault ≡ record { file = name; place = place; kind = kind }

@@ -2,10 +2,10 @@
 ghost use Rattle.std.specs.Prelude.{IfOk, OnOk, string_cmp};
 ghost use Rattle.std.specs.BTreeMap.{IsOrdered, values};
 ghost use Rattle.ws_graph.specs.Node.{planned_of};
-ghost use Rattle.ws_graph.specs.Discovery.{held_sources, texts, met_paths, waiting_paths, AreAll, AreWaiting, TakesAll, AddsPath, AddsPaths, AddsImported, AddsUnmet, IsNextWave};
+ghost use Rattle.ws_graph.specs.Discovery.{held_sources, string_texts, met_paths, waiting_paths, AreAll, AreWaiting, TakesAll, AddsPath, AddsPaths, AddsImported, AddsUnmet, IsNextWave};
 
-use crate::known::Known;
 use crate::planned::Node;
+use crate::previous::PreviousFiles;
 use crate::target::{Target, targets_of};
 use crate::waiting::{Waiting, text_of, waiting_at};
 use crate::wave::{Found, read_all};
@@ -24,7 +24,7 @@ pub fn discover(
     edition: Edition,
     registers: &Registers,
     first: Vec<Waiting>,
-    known: &[Known<'_>],
+    known: &[PreviousFiles<'_>],
 ) -> Result<BTreeMap<String, Found>, AllocError>
     requires { AreWaiting (held_sources registers.now) first.items }
     ensures { IfOk result (λ met. AreAll edition (held_sources registers.now) (waiting_paths first.items) (met_paths met.entries) (values met)) }
@@ -48,7 +48,7 @@ fn take_all(
 ) -> Result<Vec<String>, AllocError>
     requires { IsOrdered string_cmp met.old }
     ensures ordered { OnOk result (IsOrdered string_cmp met.new) }
-    ensures takes { IfOk result (λ imported. TakesAll (held_sources registers.now) read.items met.old.entries met.new.entries (texts imported.items)) }
+    ensures takes { IfOk result (λ imported. TakesAll (held_sources registers.now) read.items met.old.entries met.new.entries (string_texts imported.items)) }
 {
     let mut imported = Vec::new(alloc);
     for directory in read {
@@ -66,7 +66,7 @@ fn add_imported(
     node: &Node,
     imported: &mut Vec<String>,
 ) -> Result<(), AllocError>
-    ensures { IfOk result (λ _. AddsImported (held_sources registers.now) (planned_of node.now) (texts imported.old.items) (texts imported.new.items)) }
+    ensures { IfOk result (λ _. AddsImported (held_sources registers.now) (planned_of node.now) (string_texts imported.old.items) (string_texts imported.new.items)) }
 {
     // The paths alone are wanted, so that no directory has a number.
     let numbered = Vec::new(alloc);
@@ -81,7 +81,7 @@ fn add_paths(
     targets: &[Target],
     imported: &mut Vec<String>,
 ) -> Result<(), AllocError>
-    ensures { IfOk result (λ _. AddsPaths (held_sources registers.now) targets.now (texts imported.old.items) (texts imported.new.items)) }
+    ensures { IfOk result (λ _. AddsPaths (held_sources registers.now) targets.now (string_texts imported.old.items) (string_texts imported.new.items)) }
 {
     for target in targets {
         add_path(alloc, registers, target.path.as_slice(), imported)?;
@@ -95,7 +95,7 @@ fn add_path(
     path: &[u8],
     imported: &mut Vec<String>,
 ) -> Result<(), AllocError>
-    ensures { IfOk result (λ _. AddsPath (held_sources registers.now) path.now (texts imported.old.items) (texts imported.new.items)) }
+    ensures { IfOk result (λ _. AddsPath (held_sources registers.now) path.now (string_texts imported.old.items) (string_texts imported.new.items)) }
 {
     let Some(text) = text_of(alloc, registers, path)? else {
         return Ok(());
@@ -111,7 +111,7 @@ fn next_wave(
     met: &BTreeMap<String, Found>,
     imported: Vec<String>,
 ) -> Result<Vec<Waiting>, AllocError>
-    ensures { IfOk result (λ wave. IsNextWave (held_sources registers.now) (met_paths met.now.entries) (texts imported.items) wave.items) }
+    ensures { IfOk result (λ wave. IsNextWave (held_sources registers.now) (met_paths met.now.entries) (string_texts imported.items) wave.items) }
 {
     let mut paths = imported;
     paths.sort()?;

@@ -13,31 +13,31 @@ ghost use Rattle.ws_register.specs.Sources.{pair_of};
 ghost use Rattle.go_ast.specs.Parse.{IsNamed, IsOther};
 ghost use Rattle.ws_graph.specs.Plan.{Planned, NoFiles, AreParsed, AllNamed, HasOther, StopsIn, IsPlan, IsPlanOf};
 ghost use Rattle.ws_graph.specs.Node.{planned_of};
-ghost use Rattle.ws_graph.specs.Discovery.{ComesTo, is_refused};
+ghost use Rattle.ws_graph.specs.Discovery.{ParsesTo, is_refused};
 ghost use Rattle.ws_graph.specs.declared.FileError.TheVariants.{Memory};
 
-use crate::known::known_file;
+use crate::previous::known_file;
 use go_ast::parsed::Parsed;
 use go_parse::{ParseError, parse_in};
 use go_text::edition::Edition;
 use go_text::fault::{Fault, FaultKind};
 use go_text::place::Place;
 use go_text::source::Source;
-pub use known::Known;
 pub use law::{law_build_plan_is_ranked, law_one_build_plan, law_some_build_plan};
 pub use packages::package_files;
 pub use planned::{Node, PlanError};
+pub use previous::PreviousFiles;
 use rayon::prelude::*;
 use std::alloc::{AllocError, AllocFailed, Global};
 use std::thread::Threads;
 
 mod discovery;
-mod known;
 pub mod law;
 mod link;
 mod packages;
 mod planned;
 pub mod planning;
+mod previous;
 mod target;
 mod waiting;
 mod wave;
@@ -74,7 +74,7 @@ fn parsed_file(
     source: Source,
     known: Option<&[Parsed]>,
 ) -> Result<Parsed, FileError>
-    ensures { ComesTo edition source result }
+    ensures { ParsesTo edition source result }
 {
     let name = String::from_str(alloc, source.name())?;
     if source.text().as_str().len() > edition.text_limit() {
@@ -118,8 +118,8 @@ fn parsed_files(
 // What files come to, in their order. Where memory ran out at any of them it did at all, whichever
 // stops first.
 fn gathered(alloc: Global, each: Vec<Result<Parsed, FileError>>) -> Result<Vec<Parsed>, FileError>
-    ensures ok { (edition : AnEdition) (files : List ASource) → AllZip (ComesTo edition) files each.items → IfOk result (λ parsed. AreParsed edition (map pair_of files) parsed.items) }
-    ensures stopped { (edition : AnEdition) (files : List ASource) (fault : AFault) → AllZip (ComesTo edition) files each.items → result ≡ Err (FileError.Stopped fault) → StopsIn edition (map pair_of files) fault }
+    ensures ok { (edition : AnEdition) (files : List ASource) → AllZip (ParsesTo edition) files each.items → IfOk result (λ parsed. AreParsed edition (map pair_of files) parsed.items) }
+    ensures stopped { (edition : AnEdition) (files : List ASource) (fault : AFault) → AllZip (ParsesTo edition) files each.items → result ≡ Err (FileError.Stopped fault) → StopsIn edition (map pair_of files) fault }
     ensures refused { list_any is_refused each.items ≡ true → result ≡ Err FileError.Memory }
 {
     if any_refused(each.as_slice()) {
@@ -152,14 +152,14 @@ fn each_parsed(
     edition: Edition,
     files: Vec<Source>,
 ) -> Result<Vec<Result<Parsed, FileError>>, AllocError>
-    ensures { IfOk result (λ each. AllZip (ComesTo edition) files.items each.items) }
+    ensures { IfOk result (λ each. AllZip (ParsesTo edition) files.items each.items) }
 {
     files
         .into_par_iter()
         .with_min_len(FILES_A_THREAD)
         .map(
             |source: Source| -> Result<Parsed, FileError>
-                ensures { ComesTo edition source result }
+                ensures { ParsesTo edition source result }
             { parsed_file(alloc, edition, source, None) },
         )
         .collect(rt, alloc)
@@ -173,7 +173,7 @@ fn each_known(
     files: Vec<Source>,
     known: &[Parsed],
 ) -> Result<Vec<Result<Parsed, FileError>>, AllocError>
-    ensures { IfOk result (λ each. AllZip (ComesTo edition) files.items each.items) }
+    ensures { IfOk result (λ each. AllZip (ParsesTo edition) files.items each.items) }
 {
     let mut each = Vec::new(alloc);
     for source in files {

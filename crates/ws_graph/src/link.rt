@@ -1,11 +1,11 @@
 //! The faults of imports, once all directories are known.
-ghost use Rattle.std.specs.Prelude.{◌≡◌, ◌<◌, ◌↔◌, ℕ, List, length, map, true, IfOk, IfSome, IfNone, IsTrue, Some};
+ghost use Rattle.std.specs.Prelude.{◌≡◌, ◌<◌, ◌↔◌, length, map, true, IfOk, IfSome, IfNone, IsTrue, Some};
 ghost use Rattle.std.specs.List.{AllZip, slice_get};
 ghost use Rattle.std.specs.List.Sorted.{IsStrictlySortedBy};
 ghost use Rattle.ws_version.specs.Writes.{path_cmp};
-ghost use Rattle.ws_reach.specs.Reach.{Edge, EdgesStayWithin, rows_of};
+ghost use Rattle.ws_reach.specs.Reach.{rows_of};
 ghost use Rattle.ws_graph.specs.Node.{planned_of};
-ghost use Rattle.ws_graph.specs.Discovery.{texts, AreTargetsOf, AreNumbersOf, AreLinks, HasFault, NoneHas, IsFirst, fault_at, TargetFault};
+ghost use Rattle.ws_graph.specs.Discovery.{string_texts, AreTargetsOf, AreNumbersOf, AreLinks, HasFault, NoneHas, IsFirst, target_fault, TargetFault};
 
 use crate::target::{Target, numbers_of, targets_of};
 use crate::wave::Found;
@@ -28,9 +28,9 @@ pub struct Links {
 
 /// Where the imports of some directories lead.
 pub fn links_of(alloc: Global, paths: &[String], founds: &[Found]) -> Result<Links, AllocError>
-    requires ascending { IsStrictlySortedBy path_cmp (texts paths.now) }
+    requires ascending { IsStrictlySortedBy path_cmp (string_texts paths.now) }
     requires length { length paths.now ≡ length founds.now }
-    ensures { IfOk result (λ links. AreLinks (texts paths.now) founds.now links) }
+    ensures { IfOk result (λ links. AreLinks (string_texts paths.now) founds.now links) }
 {
     let targets = all_targets(alloc, paths, founds)?;
     let rows = all_numbers(alloc, targets.as_slice())?;
@@ -49,8 +49,8 @@ fn all_targets(
     paths: &[String],
     founds: &[Found],
 ) -> Result<Vec<Vec<Target>>, AllocError>
-    requires { IsStrictlySortedBy path_cmp (texts paths.now) }
-    ensures { IfOk result (λ all. AllZip (λ found targets. AreTargetsOf (texts paths.now) (planned_of found.node) targets.items) founds.now all.items) }
+    requires { IsStrictlySortedBy path_cmp (string_texts paths.now) }
+    ensures { IfOk result (λ all. AllZip (λ found targets. AreTargetsOf (string_texts paths.now) (planned_of found.node) targets.items) founds.now all.items) }
 {
     let mut all = Vec::new(alloc);
     for found in founds {
@@ -104,7 +104,7 @@ pub fn import_fault(
 }
 
 fn fault_at(target: &Target, kind: FaultKind) -> Result<Fault, AllocError>
-    ensures { IfOk result (λ fault. fault ≡ fault_at target.now kind) }
+    ensures { IfOk result (λ fault. fault ≡ target_fault target.now kind) }
 {
     let file = target.file.clone()?;
     Ok(Fault::new(file, target.place, kind))

@@ -9,12 +9,12 @@ ghost use Rattle.ws_map.specs.Kept.{StandsFor};
 ghost use Rattle.ws_graph.specs.Plan.{NoFiles, IsPlanOf};
 ghost use Rattle.ws_graph.specs.BuildPlan.{IsBuildPlanOf, IsJointPlanFor, SomeHasNoFiles};
 ghost use Rattle.ws_graph.specs.Node.{planned_of, directory_of};
-ghost use Rattle.ws_graph.specs.Discovery.{held_sources, texts, planned_with, IsWaveIfFilled, IsLinkedAt, ArePlanned};
+ghost use Rattle.ws_graph.specs.Discovery.{held_sources, string_texts, planned_with, IsWaveIfFilled, IsLinkedAt, ArePlanned};
 
 use crate::discovery::discover;
-use crate::known::Known;
 use crate::link::{Links, import_fault, links_of};
 use crate::planned::{Node, PlanError};
+use crate::previous::PreviousFiles;
 use crate::target::Target;
 use crate::waiting::{Waiting, waiting_at};
 use crate::wave::Found;
@@ -90,10 +90,10 @@ pub fn plan_all(
     edition: Edition,
     registers: &Registers,
     targets: &[String],
-    known: &[Known<'_>],
+    known: &[PreviousFiles<'_>],
 ) -> Result<BuildPlan, PlanError>
-    ensures ok { IfOk result (λ plan. IsJointPlanFor edition registers.now (texts targets.now) (map directory_of plan.directories.items)) }
-    ensures none { (W : List Write) → StandsFor held_cmp registers.now W → result ≡ Err PlanError.NoPackage → SomeHasNoFiles edition W (texts targets.now) }
+    ensures ok { IfOk result (λ plan. IsJointPlanFor edition registers.now (string_texts targets.now) (map directory_of plan.directories.items)) }
+    ensures none { (W : List Write) → StandsFor held_cmp registers.now W → result ≡ Err PlanError.NoPackage → SomeHasNoFiles edition W (string_texts targets.now) }
 {
     let Some(first) = first_wave(alloc, registers, targets)? else {
         return Err(PlanError::NoPackage);
@@ -110,7 +110,7 @@ fn first_wave(
     registers: &Registers,
     targets: &[String],
 ) -> Result<Option<Vec<Waiting>>, AllocError>
-    ensures { IfOk result (IsWaveIfFilled (held_sources registers.now) (texts targets.now)) }
+    ensures { IfOk result (IsWaveIfFilled (held_sources registers.now) (string_texts targets.now)) }
 {
     let paths = each_once(alloc, targets)?;
     let mut wave = Vec::new(alloc);
@@ -124,7 +124,7 @@ fn first_wave(
 }
 
 fn only(alloc: Global, text: &str) -> Result<Vec<String>, AllocError>
-    ensures { IfOk result (λ only. texts only.items ≡ text.now ∷ []) }
+    ensures { IfOk result (λ only. string_texts only.items ≡ text.now ∷ []) }
 {
     let mut only = Vec::new(alloc);
     only.push(String::from_str(alloc, text)?)?;
@@ -133,7 +133,7 @@ fn only(alloc: Global, text: &str) -> Result<Vec<String>, AllocError>
 
 // Some texts, each once, ascending.
 fn each_once(alloc: Global, some: &[String]) -> Result<Vec<String>, AllocError>
-    ensures { IfOk result (λ once. (text : List ℕ) → Contains (texts once.items) text ↔ Contains (texts some.now) text) }
+    ensures { IfOk result (λ once. (text : List ℕ) → Contains (string_texts once.items) text ↔ Contains (string_texts some.now) text) }
 {
     let mut once = copies(alloc, some)?;
     once.sort()?;
@@ -142,7 +142,7 @@ fn each_once(alloc: Global, some: &[String]) -> Result<Vec<String>, AllocError>
 }
 
 fn copies(alloc: Global, some: &[String]) -> Result<Vec<String>, AllocError>
-    ensures { IfOk result (λ copies. texts copies.items ≡ texts some.now) }
+    ensures { IfOk result (λ copies. string_texts copies.items ≡ string_texts some.now) }
 {
     let mut copies = Vec::new(alloc);
     for text in some {
@@ -170,9 +170,9 @@ fn parted(
 
 // The directories with the faults of their imports.
 fn linked(alloc: Global, paths: &[String], founds: Vec<Found>) -> Result<Vec<Directory>, AllocError>
-    requires ascending { IsStrictlySortedBy path_cmp (texts paths.now) }
+    requires ascending { IsStrictlySortedBy path_cmp (string_texts paths.now) }
     requires length { length paths.now ≡ length founds.items }
-    ensures { IfOk result (λ directories. ArePlanned (texts paths.now) founds.items (map directory_of directories.items)) }
+    ensures { IfOk result (λ directories. ArePlanned (string_texts paths.now) founds.items (map directory_of directories.items)) }
 {
     let links = links_of(alloc, paths, founds.as_slice())?;
     let mut directories = Vec::new(alloc);
@@ -192,7 +192,7 @@ fn linked_at(
     requires path { here < length paths.now }
     requires targets { here < length links.now.targets.items }
     requires rows { here < length links.now.rows.items }
-    ensures { IfOk result (λ directory. IsLinkedAt (texts paths.now) links.now here (planned_of node) (directory_of directory)) }
+    ensures { IfOk result (λ directory. IsLinkedAt (string_texts paths.now) links.now here (planned_of node) (directory_of directory)) }
 {
     let targets = targets_at(links.targets.as_slice(), here);
     let fault = import_fault(links, here, targets.as_slice())?;

@@ -1,12 +1,12 @@
 //! What the imports of a directory lead to.
-ghost use Rattle.std.specs.Prelude.{◌≡◌, ◌↔◌, ◌++◌, ℕ, List, [], ◌∷◌, IfOk, string_bytes};
+ghost use Rattle.std.specs.Prelude.{◌≡◌, ◌↔◌, ℕ, [], ◌∷◌, IfOk, string_bytes};
 ghost use Rattle.std.specs.List.{Contains};
 ghost use Rattle.std.specs.List.Sorted.{IsStrictlySortedBy, IsStrictlyIncreasing};
 ghost use Rattle.go_ast.specs.Views.{import_of};
 ghost use Rattle.ws_version.specs.Writes.{path_cmp};
-ghost use Rattle.ws_graph.specs.BuildPlan.{imports_in};
+ghost use Rattle.ws_graph.specs.BuildPlan.{directory_imports};
 ghost use Rattle.ws_graph.specs.Node.{planned_of};
-ghost use Rattle.ws_graph.specs.Discovery.{texts, IsNumber, HaveTargets, AreTargetsOf, AddsTargets, AddsFile, HasNumber};
+ghost use Rattle.ws_graph.specs.Discovery.{string_texts, IsNumber, HaveTargets, AreTargetsOf, AddsTargets, AddsFile, HasNumber};
 
 use crate::planned::Node;
 use go_ast::file::ImportSpec;
@@ -27,8 +27,8 @@ pub struct Target {
 
 /// What the imports of a directory lead to, by the numbers of some paths.
 pub fn targets_of(alloc: Global, all: &[String], node: &Node) -> Result<Vec<Target>, AllocError>
-    requires { IsStrictlySortedBy path_cmp (texts all.now) }
-    ensures { IfOk result (λ targets. AreTargetsOf (texts all.now) (planned_of node.now) targets.items) }
+    requires { IsStrictlySortedBy path_cmp (string_texts all.now) }
+    ensures { IfOk result (λ targets. AreTargetsOf (string_texts all.now) (planned_of node.now) targets.items) }
 {
     match node {
         Node::Faulty(_) => Ok(Vec::new(alloc)),
@@ -40,8 +40,8 @@ pub fn targets_of(alloc: Global, all: &[String], node: &Node) -> Result<Vec<Targ
 }
 
 fn targets_in(alloc: Global, all: &[String], parsed: &[Parsed]) -> Result<Vec<Target>, AllocError>
-    requires { IsStrictlySortedBy path_cmp (texts all.now) }
-    ensures { IfOk result (λ targets. HaveTargets (texts all.now) parsed.now targets.items) }
+    requires { IsStrictlySortedBy path_cmp (string_texts all.now) }
+    ensures { IfOk result (λ targets. HaveTargets (string_texts all.now) parsed.now targets.items) }
 {
     let mut targets = Vec::new(alloc);
     for file in parsed {
@@ -56,8 +56,8 @@ fn add_file(
     file: &Parsed,
     targets: &mut Vec<Target>,
 ) -> Result<(), AllocError>
-    requires { IsStrictlySortedBy path_cmp (texts all.now) }
-    ensures { IfOk result (λ _. AddsFile (texts all.now) file.now targets.old.items targets.new.items) }
+    requires { IsStrictlySortedBy path_cmp (string_texts all.now) }
+    ensures { IfOk result (λ _. AddsFile (string_texts all.now) file.now targets.old.items targets.new.items) }
 {
     let name = file.name();
     for spec in &file.file().imports {
@@ -73,8 +73,8 @@ fn add_target(
     spec: &ImportSpec,
     targets: &mut Vec<Target>,
 ) -> Result<(), AllocError>
-    requires { IsStrictlySortedBy path_cmp (texts all.now) }
-    ensures { IfOk result (λ _. AddsTargets (texts all.now) (imports_in file.now (import_of spec.now ∷ [])) targets.old.items targets.new.items) }
+    requires { IsStrictlySortedBy path_cmp (string_texts all.now) }
+    ensures { IfOk result (λ _. AddsTargets (string_texts all.now) (directory_imports file.now (import_of spec.now ∷ [])) targets.old.items targets.new.items) }
 {
     if spec.path.as_slice() == b"fmt".as_slice() {
         return Ok(());
@@ -90,8 +90,8 @@ fn add_target(
 
 // The number of a path among some that ascend.
 fn number_of(all: &[String], path: &[u8]) -> Option<usize>
-    requires { IsStrictlySortedBy path_cmp (texts all.now) }
-    ensures { IsNumber (texts all.now) path.now result }
+    requires { IsStrictlySortedBy path_cmp (string_texts all.now) }
+    ensures { IsNumber (string_texts all.now) path.now result }
 {
     let found = all.binary_search_by(
         |other: &String| -> Ordering

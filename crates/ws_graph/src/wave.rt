@@ -8,8 +8,8 @@ ghost use Rattle.ws_graph.specs.BuildPlan.{Sources};
 ghost use Rattle.ws_graph.specs.Node.{planned_of};
 ghost use Rattle.ws_graph.specs.Discovery.{IsFirstMain, IsFound, IsWaiting, AreWaiting, IsReadAs, AreRead};
 
-use crate::known::{Known, files_at};
 use crate::planned::Node;
+use crate::previous::{PreviousFiles, files_at};
 use crate::waiting::Waiting;
 use crate::{FILES_A_THREAD, FileError, is_named, judged, parsed_files};
 use go_ast::parsed::Parsed;
@@ -33,7 +33,7 @@ pub fn read_all(
     alloc: Global,
     edition: Edition,
     wave: Vec<Waiting>,
-    known: &[Known<'_>],
+    known: &[PreviousFiles<'_>],
 ) -> Result<Vec<Result<(String, Found), AllocError>>, AllocError>
     ensures { (sources : Sources) → AreWaiting sources wave.items → IfOk result (λ read. AreRead edition sources wave.items read.items) }
 {
@@ -44,7 +44,7 @@ pub fn read_all(
 }
 
 // Whether an earlier plan has one of them.
-fn is_any_known(wave: &[Waiting], known: &[Known<'_>]) -> bool {
+fn is_any_known(wave: &[Waiting], known: &[PreviousFiles<'_>]) -> bool {
     for waiting in wave {
         if files_at(known, waiting.path.as_str()).is_some() {
             return true;
@@ -59,7 +59,7 @@ fn read_in_turn(
     alloc: Global,
     edition: Edition,
     wave: Vec<Waiting>,
-    known: &[Known<'_>],
+    known: &[PreviousFiles<'_>],
 ) -> Result<Vec<Result<(String, Found), AllocError>>, AllocError>
     ensures { (sources : Sources) → AreWaiting sources wave.items → IfOk result (λ read. AreRead edition sources wave.items read.items) }
 {

@@ -10,7 +10,7 @@ use Rattle.ws_command.specs.declared.refusal.Refusal.TheVariants.{BadCommand, Un
 use Rattle.ws_command.specs.Refusals.{refused, first_of}
 use Rattle.ws_command.specs.Printing.{report_text}
 use Rattle.ws_command.specs.Commands.{Command, Nothing, Bad, Create, Write, Remove, Apply, Merge, Settle, Build, Run, Ids, Show, Use, text_lines, text_of}
-use Rattle.ws_session.specs.World.{World, Accepted, AfterBy, After, after_builds, seeking, refusals, Answers, PrintsBy, Prints, builds_text, target_report}
+use Rattle.ws_session.specs.World.{World, Accepted, AfterBy, After, after_builds, seeking, refusals, Outputs, PrintsBy, Prints, builds_text, target_report}
 use Rattle.ws_session.proofs.OneText.{one_builds}
 use Rattle.ws_keep.specs.Keeping.{IsLike, is_change, is_refusal}
 use Rattle.ws_keep.proofs.Forever.{like_itself}
@@ -112,7 +112,7 @@ not_kept : (refused : Bool) → (true && not refused) ≡ false → refused ≡ 
 not_kept true h = refl
 not_kept false h = cc
 
-dropped_accepted : (c : Command) (text : Option (List ℕ)) (world next : World) (told : List ℕ) → Accepted c text world next → Answers c world told
+dropped_accepted : (c : Command) (text : Option (List ℕ)) (world next : World) (told : List ℕ) → Accepted c text world next → Outputs c world told
     → (is_change c && not (is_refusal told)) ≡ false → IsLike world next
 dropped_accepted Nothing text world next told after answers h = still_like world next after
 dropped_accepted Bad text world next told after answers h = still_like world next after

@@ -9,12 +9,12 @@ use Rattle.ws_action.specs.Clash as clash
 use Rattle.ws_action.proofs.Members.{none_in_empty, head_or_later, later, at_head}
 use Rattle.ws_command.specs.Commands.{Command, command_of, text_lines, text_of}
 use Rattle.ws_command.specs.Lines.{lines_of}
-use Rattle.ws_session.specs.World.{World, Replica, After, hashed, texts_of_replica}
+use Rattle.ws_session.specs.World.{World, ReplicaModel, After, hashed_texts, texts_of_replica}
 use Rattle.ws_session.specs.Text.{TextFrom, ReachedFrom}
 use Rattle.ws_keep.specs.Keeping.{EndsFrom, IsLike, IsClearFrom}
 use Rattle.ws_keep.proofs.Likeness.{in_which, Seeks, after_seeks, same_prints}
 
-abbrev pub world_of : Edition → List Replica → List Action → World
+abbrev pub world_of : Edition → List ReplicaModel → List Action → World
 world_of edition replicas sought = record { edition = edition; replicas = replicas; sought = sought }
 
 -- the lean one is the other, with less looked for
@@ -110,8 +110,8 @@ from_one f (x ∷ xs) s c = elim (Contains-append_cases (f x) (flat_map f xs) s 
 actions_less : (A B : List Action) → Includes A B → Includes (hashed_actions A) (hashed_actions B)
 actions_less A B i s c = let a = from_one clash.hashed B s c in mapped clash.hashed A a.0 s (i a.0 a.1) a.2
 
-pub like_hashed : (lean world : World) → IsLike lean world → Includes (hashed world) (hashed lean)
-unfolding hashed
+pub like_hashed : (lean world : World) → IsLike lean world → Includes (hashed_texts world) (hashed_texts lean)
+unfolding hashed_texts
 like_hashed lean world like s c =
     elim (Contains-append_cases (flat_map texts_of_replica lean.replicas) (hashed_actions lean.sought) s c) [
       | inl l ↦ Contains-append_left (flat_map texts_of_replica world.replicas) (hashed_actions world.sought) s (subst (λ rs. Contains (flat_map texts_of_replica rs) s) like.replicas l)

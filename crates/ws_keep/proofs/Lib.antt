@@ -1,7 +1,7 @@
 pub mod Changing
-pub mod Forever
-pub mod Growing
-pub mod Likeness
-pub mod Many
+mod Forever
+mod Growing
+mod Likeness
+mod Many
 pub mod Parting
 pub mod Replaying

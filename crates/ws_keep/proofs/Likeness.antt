@@ -7,7 +7,7 @@ use Rattle.ws_replica.specs.Reports.{TargetBuild, actions_in, all_actions}
 use Rattle.ws_command.specs.declared.refusal.Refusal.{Refusal}
 use Rattle.ws_command.specs.Commands.{Command, Nothing, Bad, Create, Write, Remove, Apply, Merge, Settle, Build, Run, Ids, Show, Use}
 use Rattle.ws_command.specs.Refusals.{first_of}
-use Rattle.ws_session.specs.World.{World, Accepted, AfterBy, After, after_builds, seeking, refusals, Answers, PrintsBy, Prints, AreBuilds, builds_text, Ran, Listed}
+use Rattle.ws_session.specs.World.{World, Accepted, AfterBy, After, after_builds, seeking, refusals, Outputs, PrintsBy, Prints, AreBuilds, builds_text, PrintsRun, Listed}
 
 -- a world in which this was looked for
 abbrev pub in_which : World → List Action → World
@@ -38,7 +38,7 @@ pub same_builds : (targets : List (List ℕ × List ℕ)) (w : World) (s : List 
 same_builds targets w s None g = g
 same_builds targets w s (Some builds) g = all_builds targets w s builds g
 
-same_ran : (name directory : List ℕ) (ticks : ℕ) (w : World) (s : List Action) (build : Option TargetBuild) (told : List ℕ) → Ran name directory ticks w build told → Ran name directory ticks (in_which w s) build told
+same_ran : (name directory : List ℕ) (ticks : ℕ) (w : World) (s : List Action) (build : Option TargetBuild) (told : List ℕ) → PrintsRun name directory ticks w build told → PrintsRun name directory ticks (in_which w s) build told
 same_ran name directory ticks w s None told g = g
 same_ran name directory ticks w s (Some build) told g = g
 
@@ -50,7 +50,7 @@ same_text : (targets : List (List ℕ × List ℕ)) (w : World) (s : List Action
 same_text targets w s None told g = g
 same_text targets w s (Some builds) told g = g
 
-pub same_answers : (c : Command) (w : World) (s : List Action) (told : List ℕ) → Answers c w told → Answers c (in_which w s) told
+pub same_answers : (c : Command) (w : World) (s : List Action) (told : List ℕ) → Outputs c w told → Outputs c (in_which w s) told
 same_answers (Build targets) w s told g = (g.0, same_builds targets w s g.0 g.1, same_text targets w s g.0 told g.2)
 same_answers (Run name directory ticks) w s told g = (g.0, g.1, same_ran name directory ticks w s g.0 told g.2)
 same_answers (Ids name directory) w s told g = (g.0, g.1, same_listed name directory w s g.0 told g.2)

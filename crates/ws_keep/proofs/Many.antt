@@ -3,11 +3,11 @@ use Rattle.std.proofs.Common.{◌≡◌, ℕ, zero, suc, List, [], ◌∷◌, �
 use Rattle.go_text.specs.declared.edition.Edition.TheVariants.{One}
 use Rattle.ws_command.specs.Lines.{lines_of}
 use Rattle.ws_command.specs.Commands.{command_of, text_lines, text_of}
-use Rattle.ws_session.specs.World.{World, After, Prints, opening}
+use Rattle.ws_session.specs.World.{World, After, Prints, empty_world}
 use Rattle.ws_session.specs.Text.{TextFrom, ReachedFrom, SessionText, IsClear}
 use Rattle.ws_session.proofs.OneText.{one_after}
 use Rattle.ws_keep.specs.Keeping.{Continues, EndsFrom, IsClearBehind, IsClearFrom, IsComplete, IsCompleteFrom, IsLike, Leaves, LeavesFrom, Restores, RestoresBehind, WritesFrom}
-use Rattle.ws_keep.specs.Runs.{AreRuns, HaveTexts, Run, scripts_of, texts_of}
+use Rattle.ws_keep.specs.Runs.{AreRuns, HaveTexts, Run, scripts_of, run_texts}
 use Rattle.ws_keep.proofs.Forever.{like_chain, like_clear, like_ends_other, like_itself, like_text_other}
 use Rattle.ws_keep.proofs.Growing.{ends_once, kept_clear}
 use Rattle.ws_keep.proofs.Parting.{clear_behind, itself, lines_part, reached_behind, reached_first, text_first}
@@ -65,10 +65,10 @@ record First (world : World) (script text new : List ℕ) : Type 0 where
   pub leaves : LeavesFrom world script last
   pub restores : Restores new last
 
-first_run : (kept script text new : List ℕ) (lean world : World) → Leaves kept lean → IsLike lean world → IsClearFrom (opening One) kept → IsClearFrom world script
+first_run : (kept script text new : List ℕ) (lean world : World) → Leaves kept lean → IsLike lean world → IsClearFrom (empty_world One) kept → IsClearFrom world script
     → (IsClearBehind kept script → Continues kept script text × RestoresBehind kept script new) → First world script text new
 first_run kept script text new lean world leaves like before clear ran =
-    let one : (w : World) → Leaves kept w → w ≡ lean = λ w l. ends_once 0 (lines_of kept) (opening One) w lean l leaves in
+    let one : (w : World) → Leaves kept w → w ≡ lean = λ w l. ends_once 0 (lines_of kept) (empty_world One) w lean l leaves in
     let did = ran (record {
       before = before;
       behind = λ w l other g. like_clear lean world script like clear other (subst (λ (v : World). ReachedFrom 0 (lines_of script) v other) (one w l) g);
@@ -87,8 +87,8 @@ first_run kept script text new lean world leaves like before clear ran =
 
 -- ---- many
 
-runs_write : (kept : List ℕ) (runs : List Run) (lean world : World) → Leaves kept lean → IsLike lean world → IsClearFrom (opening One) kept → IsClearFrom world (scripts_of runs)
-    → AreRuns kept runs → HaveTexts runs → WritesFrom world (scripts_of runs) (texts_of runs)
+runs_write : (kept : List ℕ) (runs : List Run) (lean world : World) → Leaves kept lean → IsLike lean world → IsClearFrom (empty_world One) kept → IsClearFrom world (scripts_of runs)
+    → AreRuns kept runs → HaveTexts runs → WritesFrom world (scripts_of runs) (run_texts runs)
 unfolding TextFrom
 runs_write kept [] lean world leaves like before clear are whole = refl
 runs_write kept (run ∷ []) lean world leaves like before clear are whole =
@@ -101,13 +101,13 @@ runs_write kept (run ∷ next ∷ runs) lean world leaves like before clear are 
     let first = first_run kept run.script run.text run.kept lean world leaves like before (clear_first run.script more world whole.0 clear) are.0 in
     let behind : IsClearFrom first.last more = clear_second run.script more world first.last whole.0 first.leaves clear in
     let again = kept_clear run.kept first.last first.restores (behind first.last (itself (lines_of more) first.last)) in
-    writes_both run.script more world first.last run.text (texts_of (next ∷ runs)) whole.0 first.writes first.leaves
+    writes_both run.script more world first.last run.text (run_texts (next ∷ runs)) whole.0 first.writes first.leaves
     (runs_write run.kept (next ∷ runs) first.restores.left first.last first.restores.leaves first.restores.like again behind are.1 whole.1)
 
 pub runs_are_one : (kept told : List ℕ) (runs : List Run) → IsComplete kept → AreRuns kept runs → HaveTexts runs → SessionText One kept told → IsClear One (kept ++ scripts_of runs)
-    → SessionText One (kept ++ scripts_of runs) (told ++ texts_of runs)
+    → SessionText One (kept ++ scripts_of runs) (told ++ run_texts runs)
 runs_are_one kept told runs complete are whole session clear =
-    let left = text_ends 0 (lines_of kept) (opening One) told session in
+    let left = text_ends 0 (lines_of kept) (empty_world One) told session in
     let parts = clear_behind kept (scripts_of runs) complete clear in
-    writes_both kept (scripts_of runs) (opening One) left.0 told (texts_of runs) complete session left.1
+    writes_both kept (scripts_of runs) (empty_world One) left.0 told (run_texts runs) complete session left.1
     (runs_write kept runs left.0 left.0 left.1 (like_itself left.0) parts.before (parts.behind left.0 left.1) are whole)

@@ -7,7 +7,7 @@ use Rattle.std.specs.Option.{option_map}
 use Rattle.go_text.specs.declared.edition.Edition.TheVariants.{One}
 use Rattle.ws_command.specs.Lines.{lines_of}
 use Rattle.ws_command.specs.Commands.{command_of, text_lines, text_of}
-use Rattle.ws_session.specs.World.{World, After, Prints, opening}
+use Rattle.ws_session.specs.World.{World, After, Prints, empty_world}
 use Rattle.ws_session.specs.Text.{TextFrom, ReachedFrom, SessionText, IsClear}
 use Rattle.ws_keep.specs.Keeping.{EndsFrom, IsCompleteFrom, IsComplete, Continues, IsClearBehind}
 
@@ -96,7 +96,7 @@ parts zero (line ∷ xs) ys world told complete g =
 pub text_parts : (kept script told : List ℕ) → IsComplete kept → SessionText One (kept ++ script) told
     → (before : List ℕ) × (text : List ℕ) × SessionText One kept before × Continues kept script text × (told ≡ before ++ text)
 text_parts kept script told complete g =
-    let p = parts 0 (lines_of kept) (lines_of script) (opening One) told complete.texts (subst (λ ls. TextFrom 0 ls (opening One) told) (lines_part kept script complete) g) in
+    let p = parts 0 (lines_of kept) (lines_of script) (empty_world One) told complete.texts (subst (λ ls. TextFrom 0 ls (empty_world One) told) (lines_part kept script complete) g) in
     (p.first, p.second, p.before, (p.last, p.ends, p.behind), p.are)
 
 -- ---- worlds that are reached
@@ -129,7 +129,7 @@ pub clear_behind : (kept script : List ℕ) → IsComplete kept → IsClear One 
 clear_behind kept script complete clear =
     let part = sym (lines_part kept script complete) in
     record {
-      before = λ other g. clear other (subst (λ ls. ReachedFrom 0 ls (opening One) other) part (reached_first 0 (lines_of kept) (lines_of script) (opening One) other complete.texts g));
-      behind = λ world leaves other g. clear other (subst (λ ls. ReachedFrom 0 ls (opening One) other) part
-          (reached_behind 0 (lines_of kept) (lines_of script) (opening One) world other complete.texts leaves g));
+      before = λ other g. clear other (subst (λ ls. ReachedFrom 0 ls (empty_world One) other) part (reached_first 0 (lines_of kept) (lines_of script) (empty_world One) other complete.texts g));
+      behind = λ world leaves other g. clear other (subst (λ ls. ReachedFrom 0 ls (empty_world One) other) part
+          (reached_behind 0 (lines_of kept) (lines_of script) (empty_world One) world other complete.texts leaves g));
     }

@@ -3,7 +3,7 @@ use Rattle.std.proofs.Common.{◌≡◌, ℕ, zero, suc, List, [], ◌∷◌, �
 use Rattle.std.specs.Option.{option_map}
 use Rattle.ws_command.specs.Lines.{lines_of}
 use Rattle.ws_command.specs.Commands.{command_of, text_lines, text_of}
-use Rattle.ws_session.specs.World.{World, After, opening}
+use Rattle.ws_session.specs.World.{World, After, empty_world}
 use Rattle.go_text.specs.declared.edition.Edition.TheVariants.{One}
 use Rattle.ws_keep.specs.Keeping.{EndsFrom, IsComplete, IsCompleteFrom, IsLike, LeavesFrom, ReplaysFrom, Restores}
 use Rattle.ws_keep.proofs.Forever.{like_after, like_chain, like_itself}
@@ -127,7 +127,7 @@ replays_command script line text lines world next are has ended after =
 
 -- ---- what is kept
 
-pub restores : (script : List ℕ) (world : World) → ReplaysFrom script (opening One) world → Restores script world
+pub restores : (script : List ℕ) (world : World) → ReplaysFrom script (empty_world One) world → Restores script world
 restores script world f =
-    let left = f.leads (opening One) (like_itself (opening One)) in
+    let left = f.leads (empty_world One) (like_itself (empty_world One)) in
     record { complete = f.complete; left = left.0; leaves = left.1; like = left.2 }

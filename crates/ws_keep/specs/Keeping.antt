@@ -6,7 +6,7 @@ use Rattle.ws_action.specs.Clash.{NoClash, Includes}
 use Rattle.ws_command.specs.Lines.{lines_of}
 use Rattle.ws_command.specs.Commands.{Command, Create, Write, Remove, Apply, Merge, Settle, Build, Use, command_of, text_of, text_lines}
 use Rattle.ws_command.specs.Pieces.{closed}
-use Rattle.ws_session.specs.World.{World, opening, hashed, After}
+use Rattle.ws_session.specs.World.{World, empty_world, hashed_texts, After}
 use Rattle.ws_session.specs.Text.{SessionText, TextFrom, ReachedFrom}
 
 -- ---- what a script leaves
@@ -25,7 +25,7 @@ LeavesFrom world script last = EndsFrom 0 (lines_of script) world last
 
 -- the world that a kept script leaves: it begins in the first edition, with no replica
 abbrev pub Leaves : List ℕ → World → Type 0
-Leaves kept world = LeavesFrom (opening One) kept world
+Leaves kept world = LeavesFrom (empty_world One) kept world
 
 -- what is written for a script that goes on from a world
 abbrev pub WritesFrom : World → List ℕ → List ℕ → Type 0
@@ -58,11 +58,11 @@ pub record IsComplete (script : List ℕ) : Type 0 where
 
 -- no two different texts that are hashed in a world behind this one have one digest
 abbrev pub IsClearFrom : World → List ℕ → Type 0
-IsClearFrom world script = (other : World) → ReachedFrom 0 (lines_of script) world other → NoClash (hashed other)
+IsClearFrom world script = (other : World) → ReachedFrom 0 (lines_of script) world other → NoClash (hashed_texts other)
 
 -- neither in the kept script's own worlds
 pub record IsClearBehind (kept script : List ℕ) : Type 0 where
-  pub before : IsClearFrom (opening One) kept
+  pub before : IsClearFrom (empty_world One) kept
   pub behind : (world : World) → Leaves kept world → IsClearFrom world script
 
 -- ---- what may be kept

@@ -26,9 +26,9 @@ HaveTexts (run ∷ next ∷ runs) = IsComplete run.script × HaveTexts (next ∷
 abbrev pub scripts_of : List Run → List ℕ
 scripts_of runs = flat_map (λ r. r.script) runs
 
-abbrev pub texts_of : List Run → List ℕ
-texts_of runs = flat_map (λ r. r.text) runs
+abbrev pub run_texts : List Run → List ℕ
+run_texts runs = flat_map (λ r. r.text) runs
 
 -- if no texts clash, they write behind a kept script what one session writes behind it
 abbrev pub WriteAsOne : List ℕ → List ℕ → List Run → Type 0
-WriteAsOne kept told runs = SessionText One kept told → IsClear One (kept ++ scripts_of runs) → SessionText One (kept ++ scripts_of runs) (told ++ texts_of runs)
+WriteAsOne kept told runs = SessionText One kept told → IsClear One (kept ++ scripts_of runs) → SessionText One (kept ++ scripts_of runs) (told ++ run_texts runs)

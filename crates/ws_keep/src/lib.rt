@@ -1,4 +1,4 @@
-//! A workspace that lasts: what is kept of it between runs, and where.
+//! Kept workspaces: what is kept between runs, and where.
 #![tactic(auto)]
 
 pub mod changes;

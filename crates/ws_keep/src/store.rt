@@ -1,6 +1,6 @@
 //! Where workspaces are kept between runs.
 ghost use Rattle.std.specs.Prelude.{◌≡◌, ◌≢◌, ℕ, List, Option, IfOk, OnOk, OnErr};
-ghost use Rattle.ws_keep.specs.Stored.{Becomes, Holds};
+ghost use Rattle.ws_keep.specs.Stored.{StoreBecomes, StoreHolds};
 
 use std::alloc::Global;
 use thiserror::Error;
@@ -38,13 +38,13 @@ pub trait Store {
 
     /// All that it holds under a name; nothing, where nothing was kept. An `Err` is a failure.
     fn load(&mut self, alloc: Global, name: &str) -> Result<Vec<u8>, StoreError>
-        ensures holds { IfOk result (λ bytes. Holds (kept self.old name.now) bytes.items) }
+        ensures holds { IfOk result (λ bytes. StoreHolds (kept self.old name.now) bytes.items) }
         ensures still { kept self.new ≡ kept self.old };
 
     /// Puts these bytes in the place of what it holds under a name, all or none. An `Err` is a
     /// failure, and it holds what it held.
     fn replace(&mut self, alloc: Global, name: &str, bytes: &[u8]) -> Result<(), StoreError>
-        ensures ok { OnOk result (Becomes (kept self.old name.now) (kept self.new name.now) bytes.now) }
+        ensures ok { OnOk result (StoreBecomes (kept self.old name.now) (kept self.new name.now) bytes.now) }
         ensures others { (other : List ℕ) → other ≢ name.now → kept self.new other ≡ kept self.old other }
         ensures err { OnErr result (kept self.new ≡ kept self.old) };
 }

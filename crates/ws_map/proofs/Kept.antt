@@ -11,7 +11,7 @@ use Rattle.std.proofs.lemmas.List.Folds.{list_any-append}
 use Rattle.std.proofs.lemmas.List.Elements.{Contains-append_left, Contains-append_right, Contains-append_cases}
 use Rattle.std.proofs.Common.{sym, ap, subst, ◌∙◌, inl, inr}
 use Rattle.ws_map.specs.Greater.{greater, joined_option, IsSemilattice}
-use Rattle.ws_map.specs.Kept.{IsGreatest, StandsAt, StandsFor, SameMembers, entry_of, chosen, joined}
+use Rattle.ws_map.specs.Kept.{IsGreatest, StandsAt, StandsFor, SameMembers, entry_of, entries_at, joined}
 use Rattle.ws_map.proofs.Greater.{joined_option-commutative, joined_option-associative, joined_option-idempotent, first_upto, second_upto, one_of_both}
 
 none_cond : {X : Type 0} (a : Bool) (w : Option X) → None ≡ w → cond a w None ≡ w
@@ -36,9 +36,9 @@ module _ {K X : Type 0} (C : K → K → Ordering) where
   at_one (Some x) w q k rest a true e h r = ap (λ t. cond t (Some x) (find C q rest)) e ∙ h refl
   at_one (Some x) w q k rest a false e h r = ap (λ t. cond t (Some x) (find C q rest)) e ∙ r
 
-  find-chosen : (at : K → Option X) (q : K) → ((k : K) → eq_by_cmp C q k ≡ true → at k ≡ at q) → (ks : List K) → find C q (chosen at ks) ≡ cond (list_any (eq_by_cmp C q) ks) (at q) None
+  find-chosen : (at : K → Option X) (q : K) → ((k : K) → eq_by_cmp C q k ≡ true → at k ≡ at q) → (ks : List K) → find C q (entries_at at ks) ≡ cond (list_any (eq_by_cmp C q) ks) (at q) None
   find-chosen at q alike [] = refl
-  find-chosen at q alike (k ∷ ks) = at_one (at k) (at q) q k (chosen at ks) (list_any (eq_by_cmp C q) ks) (eq_by_cmp C q k) refl (alike k) (find-chosen at q alike ks)
+  find-chosen at q alike (k ∷ ks) = at_one (at k) (at q) q k (entries_at at ks) (list_any (eq_by_cmp C q) ks) (eq_by_cmp C q k) refl (alike k) (find-chosen at q alike ks)
 
 module _ {K X : Type 0} {R : X → X → Ordering} (r : IsTotalOrder R) where
   upto_greater : (V W : List (K × X)) (q : K) (x y : X) → IsGreatest R V q x → IsGreatest R W q y → (z : X) → Contains (V ++ W) (q, z) → is_gt (R z (greater R x y)) ≡ false
@@ -79,7 +79,7 @@ module _ {K X : Type 0} {C : K → K → Ordering} where
     get-joined f m n q =
         let at : K → Option X = λ k. joined_option f (get m k) (get n k) in
         let alike : (k : K) → eq_by_cmp C q k ≡ true → at k ≡ at q = λ k t. let tie = equal_from_test (C q k) t in (ap (λ z. joined_option f z (get n k)) (get_tied o m q k tie) ∙ ap (joined_option f (get m q)) (get_tied o n q k tie)) in
-        get-from_entries o (chosen at (keys m ++ keys n)) q
+        get-from_entries o (entries_at at (keys m ++ keys n)) q
         ∙ find-chosen C at q alike (keys m ++ keys n)
         ∙ ap (λ b. cond b (at q) None) (list_any-append (eq_by_cmp C q) (keys m) (keys n) ∙ ap (λ b. b || list_any (eq_by_cmp C q) (keys n)) (sym (contains_key-keys m q)) ∙ ap (λ b. is_some (get m q) || b) (sym (contains_key-keys n q)))
         ∙ any_of_two f (get m q) (get n q)

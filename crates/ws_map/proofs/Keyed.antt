@@ -12,7 +12,7 @@ use Rattle.std.specs.FinMap.{FinMap, empty, get, find, insert, from_entries, ent
 use Rattle.std.proofs.lemmas.Cmp.{tied_itself, nat_list_cmp_total}
 use Rattle.std.proofs.lemmas.Map.Keys.{sorted_head, sorted_tail}
 use Rattle.std.proofs.Common.{sym, ap, subst, ◌∙◌, inl, inr, arith}
-use Rattle.ws_map.specs.Keyed.{bytes_cmp, keyed, by_key, Stands}
+use Rattle.ws_map.specs.Keyed.{bytes_cmp, keyed, by_key, StandsAtBytes}
 use Rattle.ws_map.specs.Kept.{joined, gathered}
 use Rattle.ws_map.proofs.Gathered.{entries-from_entries, gathered_entries}
 use Rattle.ws_map.proofs.Itself.{Contains-cons_cases, Contains-first, Contains-later, get-contained}
@@ -136,7 +136,7 @@ module _ {K : Type 0} (cmp : K → K → Ordering) (bytes : K → List ℕ) (by_
     gathered-keyed f m es h = ap (gathered f m) (sym (entries-by_key es h)) ∙ gathered_entries bytes_cmp_total bytes_cmp-IsAntisymmetric f m (by_key bytes es)
 
     -- what stands among the entries is found there
-    pub found : (es : List (K × X)) (at : List ℕ) (x : X) → IsStrictlySortedBy cmp (keys_of es) → Stands bytes es at x → get (by_key bytes es) at ≡ Some x
+    pub found : (es : List (K × X)) (at : List ℕ) (x : X) → IsStrictlySortedBy cmp (keys_of es) → StandsAtBytes bytes es at x → get (by_key bytes es) at ≡ Some x
     found es at x sorted (key, same, in_es) =
         ap (get (by_key bytes es)) (sym same)
         ∙ get-contained bytes_cmp_total bytes_cmp-IsAntisymmetric (by_key bytes es) (bytes key) x

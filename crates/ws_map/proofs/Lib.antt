@@ -3,4 +3,4 @@ pub mod Greater
 pub mod Itself
 pub mod Kept
 pub mod Keyed
-pub mod Undone
+mod Undone

@@ -28,14 +28,14 @@ entry_of k None = []
 entry_of k (Some x) = (k, x) ∷ []
 
 -- the entries that a function from keys gives at a list of keys
-abbrev pub chosen : {K X : Type 0} → (K → Option X) → List K → List (K × X)
-chosen at [] = []
-chosen at (k ∷ ks) = entry_of k (at k) ++ chosen at ks
+abbrev pub entries_at : {K X : Type 0} → (K → Option X) → List K → List (K × X)
+entries_at at [] = []
+entries_at at (k ∷ ks) = entry_of k (at k) ++ entries_at at ks
 
 module _ {K X : Type 0} {C : K → K → Ordering} where
   -- what the two have at each key, joined by f
   unfoldable pub joined : (X → X → X) → FinMap C X → FinMap C X → FinMap C X
-  joined f m n = from_entries (chosen (λ q. joined_option f (get m q) (get n q)) (keys m ++ keys n))
+  joined f m n = from_entries (entries_at (λ q. joined_option f (get m q) (get n q)) (keys m ++ keys n))
 
   -- one more value x at the key k: what it alone would be is joined
   abbrev pub taken : (X → X → X) → FinMap C X → K → X → FinMap C X

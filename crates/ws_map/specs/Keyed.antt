@@ -24,5 +24,5 @@ contents_of bytes None = by_key bytes []
 contents_of bytes (Some map) = by_key bytes map.entries
 
 -- a value stands at some bytes among some entries
-abbrev pub Stands : {K X : Type 0} → (K → List ℕ) → List (K × X) → List ℕ → X → Type 0
-Stands {K} bytes es at x = (key : K) × (bytes key ≡ at) × Contains es (key, x)
+abbrev pub StandsAtBytes : {K X : Type 0} → (K → List ℕ) → List (K × X) → List ℕ → X → Type 0
+StandsAtBytes {K} bytes es at x = (key : K) × (bytes key ≡ at) × Contains es (key, x)

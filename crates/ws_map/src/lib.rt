@@ -12,7 +12,7 @@ ghost use Rattle.std.specs.Ordering.{is_lt};
 ghost use Rattle.std.specs.BTreeMap.{IsOrdered};
 ghost use Rattle.ws_map.specs.Greater.{greater};
 ghost use Rattle.ws_map.specs.Kept.{joined, taken, is_news, gathered};
-ghost use Rattle.ws_map.specs.Keyed.{bytes_cmp, keyed, by_key, Stands};
+ghost use Rattle.ws_map.specs.Keyed.{bytes_cmp, keyed, by_key, StandsAtBytes};
 ghost use Rattle.ws_map.specs.Undone.{put_back, undone};
 
 use std::alloc::{AllocError, Global};
@@ -341,7 +341,7 @@ fn put_back<K: Key, V: Ranked>(mine: &mut BTreeMap<K, V>, put: Put<'_, K, V>)
 
 // What the next of the entries holds that stands at a key; those before it are passed over.
 fn next_at<'a, K: Key, V: Ranked>(rest: &mut Iter<'a, K, V>, key: &K) -> Option<&'a V>
-    ensures found { IfSome result (λ value. Stands K.bytes rest.old (K.bytes key.now) value.now) }
+    ensures found { IfSome result (λ value. StandsAtBytes K.bytes rest.old (K.bytes key.now) value.now) }
     ensures left { (e : _) → Contains rest.new e → Contains rest.old e }
 {
     'rest: while let Some((at, value)) = rest.next() {

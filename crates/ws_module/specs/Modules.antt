@@ -31,12 +31,12 @@ is_module [] = false
 is_module (word ∷ words) = bytes_eq word (codes "module") || bytes_eq word (codes "module(")
 
 -- the line is this word alone
-abbrev pub is_word : List ℕ → List (List ℕ) → Bool
-is_word word words = option_map_or (λ only. bytes_eq only word) (only_word words) false
+abbrev pub is_lone_word : List ℕ → List (List ℕ) → Bool
+is_lone_word word words = option_map_or (λ only. bytes_eq only word) (only_word words) false
 
 -- `module` opens a block on it
-abbrev pub is_open : List (List ℕ) → Bool
-is_open words = option_map_or (λ word. bytes_eq word (codes "(")) (word_behind words) (is_word (codes "module(") words)
+abbrev pub opens_block : List (List ℕ) → Bool
+opens_block words = option_map_or (λ word. bytes_eq word (codes "(")) (word_behind words) (is_lone_word (codes "module(") words)
 
 -- ---- of lines
 
@@ -46,14 +46,14 @@ said line = words_of (uncommented line)
 
 -- the word of a block, behind the line that opens it
 abbrev pub word_in_block : List (List ℕ) → Option (List ℕ)
-word_in_block (line ∷ close ∷ lines) = if is_word (codes ")") (said close) then only_word (said line) else None
+word_in_block (line ∷ close ∷ lines) = if is_lone_word (codes ")") (said close) then only_word (said line) else None
 word_in_block _ = None
 
 -- the word that names the module
 abbrev pub module_word : List (List ℕ) → Option (List ℕ)
 module_word [] = None
 module_word (line ∷ lines) =
-    if is_module (said line) then (if is_open (said line) then word_in_block lines else word_behind (said line)) else module_word lines
+    if is_module (said line) then (if opens_block (said line) then word_in_block lines else word_behind (said line)) else module_word lines
 
 -- a word of two bytes or more that begins and ends with this mark
 abbrev pub is_quoted : ℕ → List ℕ → Bool

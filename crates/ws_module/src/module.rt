@@ -2,7 +2,7 @@
 //! [Module directive](https://go.dev/ref/mod#go-mod-file-module)
 ghost use Rattle.std.specs.Prelude.{◌≡◌, IfOk, map, option_map};
 ghost use Rattle.ws_command.specs.Lines.{lines_of, words_of};
-ghost use Rattle.ws_module.specs.Modules.{is_module, is_open, is_word, module_of, module_word, only_word, spaced, uncommented};
+ghost use Rattle.ws_module.specs.Modules.{is_module, opens_block, is_lone_word, module_of, module_word, only_word, spaced, uncommented};
 ghost use Rattle.ws_module.specs.Modules.{unquoted, word_behind, word_in_block};
 
 use std::alloc::{AllocError, Global};
@@ -64,7 +64,7 @@ fn is_module(line: &[u8]) -> bool
 
 /// Whether a line is this word alone.
 fn is_word(line: &[u8], word: &[u8]) -> bool
-    ensures { result ≡ is_word word.now (words_of line.now) }
+    ensures { result ≡ is_lone_word word.now (words_of line.now) }
 {
     match only_word(line) {
         Some(only) => only == word,
@@ -74,7 +74,7 @@ fn is_word(line: &[u8], word: &[u8]) -> bool
 
 /// Whether a line that begins with `module` opens a block.
 fn is_open(line: &[u8]) -> bool
-    ensures { result ≡ is_open (words_of line.now) }
+    ensures { result ≡ opens_block (words_of line.now) }
 {
     match word_behind(line) {
         Some(word) => word == b"(".as_slice(),

@@ -1,8 +1,8 @@
 //! Where the files that words name stand in a workspace.
 ghost use Rattle.std.specs.Prelude.{◌≡◌, IfOk, map, string_bytes};
 ghost use Rattle.std.specs.List.{list_all};
-ghost use Rattle.ws_module.specs.Places.{AreSorted, IsPathIn, are_alone, beneath, directory_in, directory_of, is_go, is_here, is_hidden, is_in};
-ghost use Rattle.ws_module.specs.Places.{is_looked_into, is_read, is_test, top_of};
+ghost use Rattle.ws_module.specs.Places.{AreSorted, IsPathIn, are_alone, beneath, directory_in, folder_directory, is_go, is_here, is_hidden_folder, is_in_folder};
+ghost use Rattle.ws_module.specs.Places.{is_looked_into, is_read, is_test, top_directory};
 
 use std::alloc::{AllocError, Global};
 use ws_path::{FilePath, directory, file_name};
@@ -13,7 +13,7 @@ const ALONE: &str = "main";
 /// The directory of a folder as words name it: `./` before it says nothing, and a file without a
 /// folder is in main.
 fn directory_of(folder: &str) -> &str
-    ensures { result.now ≡ directory_of folder.now }
+    ensures { result.now ≡ folder_directory folder.now }
 {
     let directory = folder.strip_prefix("./").unwrap_or(folder);
     if directory.is_empty() || directory == "." {
@@ -25,7 +25,7 @@ fn directory_of(folder: &str) -> &str
 
 /// Whether all files are of this folder.
 fn are_in(files: &[&str], folder: &str) -> bool
-    ensures { result ≡ list_all (is_in folder.now) (map (λ file. file.now) files.now) }
+    ensures { result ≡ list_all (is_in_folder folder.now) (map (λ file. file.now) files.now) }
 {
     for file in files {
         if directory(file) != folder {
@@ -91,14 +91,14 @@ fn is_here(name: &str) -> bool
 
 /// The directory of a folder that is run, by its name; main where that is no name.
 pub fn top_of(folder: &str) -> &str
-    ensures { result.now ≡ top_of folder.now }
+    ensures { result.now ≡ top_directory folder.now }
 {
     let name = file_name(folder);
     if is_here(name) { ALONE } else { name }
 }
 
 fn is_hidden(name: &str) -> bool
-    ensures { result ≡ is_hidden name.now }
+    ensures { result ≡ is_hidden_folder name.now }
 {
     name.starts_with(".") || name.starts_with("_")
 }

@@ -8,8 +8,8 @@ abbrev pub is_slash : ℕ → Bool
 is_slash b = b == 47
 
 -- what stands between the slashes
-abbrev pub elements : List ℕ → List (List ℕ)
-elements path = slice_split is_slash path
+abbrev pub path_elements : List ℕ → List (List ℕ)
+path_elements path = slice_split is_slash path
 
 -- what stands before the last slash, and nothing where there is none
 abbrev pub directory : List ℕ → List ℕ
@@ -32,10 +32,10 @@ abbrev pub is_element : List ℕ → Bool
 is_element e = not (length e == 0) && (list_all is_element_byte e && not (is_only_dots e))
 
 abbrev pub has_two_elements : List ℕ → Bool
-has_two_elements path = nat_le 2 (length (elements path))
+has_two_elements path = nat_le 2 (length (path_elements path))
 
 abbrev pub has_elements : List ℕ → Bool
-has_elements path = list_all is_element (elements path)
+has_elements path = list_all is_element (path_elements path)
 
 -- ends in `.go`, with something before that
 abbrev pub is_go_file : List ℕ → Bool

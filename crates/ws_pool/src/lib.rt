@@ -1,4 +1,4 @@
-//! Who compiles a board's jobs.
+//! The workers that compile a board's jobs.
 #![tactic(auto)]
 
 ghost use Rattle.std.specs.Prelude.{◌≡◌, IfOk, IfErr};

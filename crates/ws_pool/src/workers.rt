@@ -2,7 +2,7 @@
 ghost use Rattle.std.specs.Prelude.{◌≡◌, ◌<◌, ◌≤◌, All, List, [], None, IfOk, IfSome, max, min, vec_len};
 ghost use Rattle.std.specs.Bool.{OnTrue};
 ghost use Rattle.ws_action.specs.Actions.{Action as AnAction};
-ghost use Rattle.ws_shared.specs.Ends.{AreFinished, Comes, ComesToEnds};
+ghost use Rattle.ws_shared.specs.Ends.{AreFinished, MayBeResult, HasResults};
 
 use crate::{Gate, Point, Step};
 use std::alloc::{AllocError, Global};
@@ -10,7 +10,7 @@ use std::marker::Brand;
 use std::sync::Wait;
 use std::thread;
 use std::thread::{Builder, Threads};
-use ws_shared::{Blanks, Built, Cache, Desk, Entry, Job, SharedBoard, SharedHand, Task};
+use ws_shared::{Blanks, Built, Cache, Desk, Entry, Job, SharedBoard, Task, Worker};
 
 /// How many bytes of stack a worker's thread has, whatever the system's limits are.
 const STACK: usize = 16 << 20;
@@ -28,11 +28,11 @@ fn compiled<G: Gate>(gate: &G, task: &Task) -> Option<Entry>
 fn run<L: Desk, G: Gate, R: Wait>(
     rt: &R,
     board: &SharedBoard<L>,
-    hand: &mut SharedHand<L>,
+    hand: &mut Worker<L>,
     gate: &G,
     task: Task,
 ) -> bool
-    requires { Comes L.opening task.action }
+    requires { MayBeResult L.opening task.action }
     ensures { OnTrue result (hand.new.runs ≡ None) }
 {
     let job = task.job();
@@ -57,12 +57,7 @@ fn run<L: Desk, G: Gate, R: Wait>(
 }
 
 // Runs jobs until none is left, or memory runs out.
-fn work<L: Desk, G: Gate, R: Wait>(
-    rt: &R,
-    board: &SharedBoard<L>,
-    hand: &mut SharedHand<L>,
-    gate: &G,
-)
+fn work<L: Desk, G: Gate, R: Wait>(rt: &R, board: &SharedBoard<L>, hand: &mut Worker<L>, gate: &G)
     requires { hand.old.runs ≡ None }
 {
     for _ in rt.forever() {
@@ -76,13 +71,13 @@ fn work<L: Desk, G: Gate, R: Wait>(
     unreachable!()
 }
 
-// All hands at once: the first on the calling thread, each other one in a thread of its own where
-// one can be had. A hand whose thread can't be made takes no job; the others take them all. Answers
-// how many hands took jobs.
+// All workers at once: the first on the calling thread, each other one in a thread of its own where
+// one can be had. A worker whose thread can't be made takes no job; the others take them all. Answers
+// how many workers took jobs.
 fn work_all<L: Desk + Send + Sync, G: Gate, R: Threads + Wait + Sync>(
     rt: &R,
     board: &SharedBoard<L>,
-    hands: &mut [SharedHand<L>],
+    hands: &mut [Worker<L>],
     gate: &G,
 ) -> usize
     requires rest { All (λ hand. hand.runs ≡ None) hands.old }
@@ -114,11 +109,11 @@ fn work_all<L: Desk + Send + Sync, G: Gate, R: Threads + Wait + Sync>(
     )
 }
 
-// So many of the hands at once. The others make nothing. Answers how many took jobs.
+// So many of the workers at once. The others make nothing. Answers how many took jobs.
 fn work_by<L: Desk + Send + Sync, G: Gate, R: Threads + Wait + Sync>(
     rt: &R,
     board: &SharedBoard<L>,
-    hands: &mut Vec<SharedHand<L>>,
+    hands: &mut Vec<Worker<L>>,
     count: usize,
     gate: &G,
 ) -> usize
@@ -152,10 +147,10 @@ fn run_jobs<L: Desk + Send + Sync, G: Gate, R: Threads + Wait + Sync>(
     requires opening { record { jobs = jobs.items; cache = cache } ≡ L.opening }
     ensures opening { IfOk result (λ built. built.opening ≡ record { jobs = jobs.items; cache = cache }) }
     ensures finished { IfOk result (λ built. (entries : List AnAction) × AreFinished built entries) }
-    ensures ends { IfOk result (λ built. ComesToEnds built []) }
+    ensures ends { IfOk result (λ built. HasResults built []) }
 {
     let (board, mut hands) = SharedBoard::<L>::open(alloc, jobs, cache, workers, blanks)?;
-    // A hand more than there are jobs left would find nothing to do.
+    // A worker more than there are jobs left would find nothing to do.
     let count = needed(workers, board.left(rt));
     let working = work_by(rt, &board, &mut hands, count as usize, gate);
     let board = board.close(hands);
@@ -182,7 +177,7 @@ pub fn build_jobs<G: Gate, R: Threads + Wait + Sync>(
     requires { 0 < workers }
     ensures opening { IfOk result (λ built. built.opening ≡ record { jobs = jobs.items; cache = cache }) }
     ensures finished { IfOk result (λ built. (entries : List AnAction) × AreFinished built entries) }
-    ensures ends { IfOk result (λ built. ComesToEnds built []) }
+    ensures ends { IfOk result (λ built. HasResults built []) }
 {
     let workers = needed(workers, jobs.len());
     let blanks = Blanks::new(workers);

@@ -12,11 +12,11 @@ use Rattle.std.proofs.lemmas.Slice.Eq.{bytes_eq-Decides}
 use Rattle.ws_path.specs.Paths.{directory, file_name}
 use Rattle.ws_version.specs.Writes.{Write, path_cmp}
 use Rattle.ws_version.proofs.Writes.{path_cmp_total}
-use Rattle.ws_register.specs.Pages.{Ascends, AllBelow}
+use Rattle.ws_register.specs.Pages.{Ascends, AllPathsBelow}
 use Rattle.ws_register.proofs.Order.{all-weaker, sorted-first, turned_less}
 use Rattle.ws_path.proofs.Cuts.{some_before}
 use Rattle.ws_register.specs.Between.{is_from, is_past, is_between}
-use Rattle.ws_register.specs.Sources.{is_in, named, source_of, file_in, files_in, texts_of}
+use Rattle.ws_register.specs.Sources.{is_in, by_file_name, source_in, file_in, files_in, texts_of}
 use Rattle.ws_register.proofs.Files.{files_in-first}
 
 and_not_parts : (a b : Bool) → a && not b ≡ true → (a ≡ true) × (b ≡ false)
@@ -33,7 +33,7 @@ before_end dir start end h path is = (and_not_parts (is_from start path) (is_pas
 -- a write outside the directory is no file of it
 no_file : (dir : List ℕ) (w : Write) (b : Bool) → is_in dir w.0 ≡ b → (b ≡ true → ⊥) → file_in dir w ≡ None
 no_file dir w true e outside = absurd (outside refl)
-no_file dir w false e outside = ap (λ t. cond t (option_map named (source_of w)) None) e
+no_file dir w false e outside = ap (λ t. cond t (option_map by_file_name (source_in w)) None) e
 
 left_out : (dir : List ℕ) (w : Write) (W : List Write) → (is_in dir w.0 ≡ true → ⊥) → files_in dir (texts_of (w ∷ W)) ≡ files_in dir (texts_of W)
 left_out dir w W outside = files_in-first dir w W ∙ ap (λ o. option_to_list o ++ files_in dir (texts_of W)) (no_file dir w (is_in dir w.0) refl outside)
@@ -75,7 +75,7 @@ files_ended dir end all W w e ascends past h =
     ap (λ l. files_in dir (texts_of l)) e ∙ files_past dir end (w ∷ W) h (past, rest)
 
 -- what is below the start isn't from it on
-pub below_start : {Y : Type 0} (start : String Y) (front : List Write) → AllBelow front (string_bytes start) → AllByRecursion (λ (w : Write). is_from (Included start) w.0 ≡ false) front
+pub below_start : {Y : Type 0} (start : String Y) (front : List Write) → AllPathsBelow front (string_bytes start) → AllByRecursion (λ (w : Write). is_from (Included start) w.0 ≡ false) front
 below_start start front below = all-weaker (λ (w : Write). path_cmp w.0 (string_bytes start) ≡ Less) (λ (w : Write). is_from (Included start) w.0 ≡ false) (λ w lt. ap is_le (turned_less path_cmp_total w.0 (string_bytes start) lt)) front below
 
 pub not_empty : (xs : List ℕ) → eqb (length xs) 0 ≡ false → 0 < length xs

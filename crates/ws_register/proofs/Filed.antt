@@ -13,7 +13,7 @@ use Rattle.ws_path.specs.Paths.{is_path}
 use Rattle.ws_version.specs.Laws.{held_cmp_total}
 use Rattle.ws_version.proofs.Writes.{path_cmp_total, path_cmp-IsAntisymmetric}
 use Rattle.ws_register.specs.Edits.{Contents}
-use Rattle.ws_register.specs.Sources.{texts_of, IsSource, HasFiles, HoldsFiles}
+use Rattle.ws_register.specs.Sources.{texts_of, IsFileSource, HasFiles, HoldsFiles}
 use Rattle.ws_register.proofs.Laws.{one_contents, SameMembers-itself}
 
 abbrev Pair : Type 0
@@ -87,7 +87,7 @@ of_write : (ws : List Write) (s : Pair) → Contains (texts_of ws) s → OfWrite
 of_write [] s c = absurd (none_in_empty {A = Pair} s c)
 of_write (w ∷ ws) s c = text_step w ws w.1.text refl s c (λ d. of_write ws s d)
 
-source_by : (w : Write) (s : Pair) → IsOfFile w → w.0 ≡ s.0 → w.1.text ≡ Some s.1 → IsSource s
+source_by : (w : Write) (s : Pair) → IsOfFile w → w.0 ≡ s.0 → w.1.text ≡ Some s.1 → IsFileSource s
 source_by w s file path text = record { path = subst (λ p. is_path p ≡ true) path file.path; text = file.text s.1 text }
 
 pub has_files : (m : Contents) → HoldsFiles m → (W : List Write) → StandsFor held_cmp m W → HasFiles W

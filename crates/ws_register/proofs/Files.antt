@@ -5,9 +5,9 @@ use Rattle.std.specs.List.{cons_option}
 use Rattle.std.proofs.lemmas.List.{map-append}
 use Rattle.go_text.specs.Named.{Source}
 use Rattle.ws_version.specs.Writes.{Write}
-use Rattle.ws_register.specs.Sources.{is_in, named, texts_of, file_in, files_in, pair_of}
+use Rattle.ws_register.specs.Sources.{is_in, by_file_name, texts_of, file_in, files_in, pair_of}
 
-by_test : (b : Bool) (x : List ℕ × List ℕ) (xs : List (List ℕ × List ℕ)) → map named (cond b (x ∷ xs) xs) ≡ option_to_list (cond b (Some (named x)) None) ++ map named xs
+by_test : (b : Bool) (x : List ℕ × List ℕ) (xs : List (List ℕ × List ℕ)) → map by_file_name (cond b (x ∷ xs) xs) ≡ option_to_list (cond b (Some (by_file_name x)) None) ++ map by_file_name xs
 by_test true x xs = refl
 by_test false x xs = refl
 
@@ -15,7 +15,7 @@ none_either : (b : Bool) (xs : List (List ℕ × List ℕ)) → xs ≡ option_to
 none_either true xs = refl
 none_either false xs = refl
 
-at_text : (dir path : List ℕ) (text : Option (List ℕ)) (sources : List (List ℕ × List ℕ)) → files_in dir (cons_option (option_map (λ t. (path, t)) text) sources) ≡ option_to_list (cond (is_in dir path) (option_map named (option_map (λ t. (path, t)) text)) None) ++ files_in dir sources
+at_text : (dir path : List ℕ) (text : Option (List ℕ)) (sources : List (List ℕ × List ℕ)) → files_in dir (cons_option (option_map (λ t. (path, t)) text) sources) ≡ option_to_list (cond (is_in dir path) (option_map by_file_name (option_map (λ t. (path, t)) text)) None) ++ files_in dir sources
 at_text dir path None sources = none_either (is_in dir path) _
 at_text dir path (Some t) sources = by_test (is_in dir path) (path, t) _
 

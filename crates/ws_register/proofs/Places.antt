@@ -11,7 +11,7 @@ use Rattle.std.proofs.lemmas.List.{take-map, take-append-drop}
 use Rattle.std.proofs.Common.{sym, ap, subst, ◌∙◌, get_or}
 use Rattle.ws_version.specs.Writes.{Held, Write, path_cmp}
 use Rattle.ws_version.proofs.Writes.{path_cmp_total, path_cmp-IsAntisymmetric}
-use Rattle.ws_register.specs.Pages.{values, Ascends, AllBelow, AllAbove}
+use Rattle.ws_register.specs.Pages.{values, Ascends, AllPathsBelow, AllAbove}
 use Rattle.ws_register.proofs.Order.{all-weaker, sorted-first, sorted-rest, sorted-precedes, precedes-first, find-behind, find-none, put-behind, put-least}
 use Rattle.ws_register.proofs.Searching.{Rises, searchable, take-within, drop-within, parted, there, turned_greater}
 
@@ -50,11 +50,11 @@ module _ {Z : Type 0} where
       ((arc_value w.0).1, slice_get-map arc_value ws i w.0 w.1 ∙ ap (λ (p : List ℕ). Some (p, (arc_value w.0).1)) same)
   place-found ws path (Err i) lt is = tt
 
-  pub place-below : (ws : List (Arc Write Z)) (path : List ℕ) (r : Result ℕ ℕ) → Ascends (values ws) → IsSearchInRange r (length ws) → IsBinarySearchResult (λ (w : Arc Write Z). path_cmp (arc_value w).0 path) ws r → IfErr r (λ at. AllBelow (take at (values ws)) path)
+  pub place-below : (ws : List (Arc Write Z)) (path : List ℕ) (r : Result ℕ ℕ) → Ascends (values ws) → IsSearchInRange r (length ws) → IsBinarySearchResult (λ (w : Arc Write Z). path_cmp (arc_value w).0 path) ws r → IfErr r (λ at. AllPathsBelow (take at (values ws)) path)
   place-below ws path (Ok i) h lt is = tt
   place-below ws path (Err i) h le is =
       let parts = is (searchable path_cmp_total path_cmp-IsAntisymmetric (λ (w : Arc Write Z). (arc_value w).0) path ws (rises-writes ws h)) in
-      subst (λ l. AllBelow l path) (sym (take-map arc_value i ws)) (map-all arc_value (λ w. path_cmp w.0 path ≡ Less) (take i ws) (take-within (λ (w : Arc Write Z). path_cmp (arc_value w).0 path ≡ Less) ws i le parts.0))
+      subst (λ l. AllPathsBelow l path) (sym (take-map arc_value i ws)) (map-all arc_value (λ w. path_cmp w.0 path ≡ Less) (take i ws) (take-within (λ (w : Arc Write Z). path_cmp (arc_value w).0 path ≡ Less) ws i le parts.0))
 
   pub place-above : (ws : List (Arc Write Z)) (path : List ℕ) (r : Result ℕ ℕ) → Ascends (values ws) → IsSearchInRange r (length ws) → IsBinarySearchResult (λ (w : Arc Write Z). path_cmp (arc_value w).0 path) ws r → IfErr r (λ at. AllAbove (drop at (values ws)) path)
   place-above ws path (Ok i) h lt is = tt
@@ -71,7 +71,7 @@ find-there W i path held h at =
     ap (find path_cmp path) cut ∙ find-behind path_cmp path_cmp_total (take i W) path ((path, held) ∷ drop (suc i) W) below
     ∙ rw (tied_itself path_cmp_total path) refl
 
-pub find-nowhere : (W : List Write) (i : ℕ) (path : List ℕ) → AllBelow (take i W) path → AllAbove (drop i W) path → find path_cmp path W ≡ None
+pub find-nowhere : (W : List Write) (i : ℕ) (path : List ℕ) → AllPathsBelow (take i W) path → AllAbove (drop i W) path → find path_cmp path W ≡ None
 find-nowhere W i path below above =
     ap (find path_cmp path) (sym (take-append-drop i W)) ∙ find-behind path_cmp path_cmp_total (take i W) path (drop i W) below
     ∙ find-none path_cmp path_cmp_total path (drop i W) above
@@ -83,7 +83,7 @@ put-there W i path held new h at =
     ap (put path_cmp path new) cut ∙ put-behind path_cmp path_cmp_total (take i W) path new ((path, held) ∷ drop (suc i) W) below
     ∙ ap (λ l. take i W ++ l) (rw (tied_itself path_cmp_total path) refl)
 
-pub put-between : (W : List Write) (i : ℕ) (path : List ℕ) (new : Held) → AllBelow (take i W) path → AllAbove (drop i W) path → put path_cmp path new W ≡ take i W ++ (path, new) ∷ drop i W
+pub put-between : (W : List Write) (i : ℕ) (path : List ℕ) (new : Held) → AllPathsBelow (take i W) path → AllAbove (drop i W) path → put path_cmp path new W ≡ take i W ++ (path, new) ∷ drop i W
 put-between W i path new below above =
     ap (put path_cmp path new) (sym (take-append-drop i W)) ∙ put-behind path_cmp path_cmp_total (take i W) path new (drop i W) below
     ∙ ap (λ l. take i W ++ l) (put-least path_cmp path_cmp_total path new (drop i W) above)
@@ -104,7 +104,7 @@ module _ {Z : Type 0} where
       ∙ ap (λ l. l ++ (path, new) ∷ drop (suc i) (values ws)) (take-map arc_value i ws ∙ ap values (sym f))
       ∙ ap (λ (l : List Write). values front ++ (path, new) ∷ l) (drop-map arc_value (suc i) ws ∙ ap values (sym b))
 
-  pub put-between-slices : (ws front back : List (Arc Write Z)) (i : ℕ) (path : List ℕ) (new : Held) → AllBelow (take i (values ws)) path → AllAbove (drop i (values ws)) path → front ≡ take i ws → back ≡ drop i ws → put path_cmp path new (values ws) ≡ values front ++ (path, new) ∷ values back
+  pub put-between-slices : (ws front back : List (Arc Write Z)) (i : ℕ) (path : List ℕ) (new : Held) → AllPathsBelow (take i (values ws)) path → AllAbove (drop i (values ws)) path → front ≡ take i ws → back ≡ drop i ws → put path_cmp path new (values ws) ≡ values front ++ (path, new) ∷ values back
   put-between-slices ws front back i path new below above f b =
       put-between (values ws) i path new below above
       ∙ ap (λ l. l ++ (path, new) ∷ drop i (values ws)) (take-map arc_value i ws ∙ ap values (sym f))

@@ -6,7 +6,7 @@ use Rattle.std.specs.List.{AllZip, flat_map}
 use Rattle.std.proofs.Common.{refl, ap, ◌∙◌, inl, inr, vec_len}
 use Rattle.ws_version.specs.Writes.{Write}
 use Rattle.ws_register.specs.declared.node.Node.{Node}
-use Rattle.ws_register.specs.Listed.{all_of, writes_of}
+use Rattle.ws_register.specs.Listed.{all_writes_of, writes_of}
 use Rattle.ws_register.specs.Nodes.{writes_below}
 use Rattle.ws_register.specs.Pages.{values}
 
@@ -18,8 +18,8 @@ module _ {X Z : Type 0} where
   same_values (p ∷ ps) (q ∷ qs) h = ap (λ z. z ∷ values qs) h.0 ∙ ap (λ zs. arc_value p ∷ zs) (same_values ps qs h.1)
 
   -- a list and its clone hold the same
-  pub same_writes : {Y : Type 0} (held : X → List Write) (v w : Vec (Arc X Z) Y) → (w ≡ v) ⊎ (AllZip (λ p q. arc_value q ≡ arc_value p) v.items w.items × (vec_len w ≡ vec_len v)) → all_of held w.items ≡ all_of held v.items
-  same_writes {Y = Y} held v w (inl same) = ap (λ (l : Vec (Arc X Z) Y). all_of held l.items) same
+  pub same_writes : {Y : Type 0} (held : X → List Write) (v w : Vec (Arc X Z) Y) → (w ≡ v) ⊎ (AllZip (λ p q. arc_value q ≡ arc_value p) v.items w.items × (vec_len w ≡ vec_len v)) → all_writes_of held w.items ≡ all_writes_of held v.items
+  same_writes {Y = Y} held v w (inl same) = ap (λ (l : Vec (Arc X Z) Y). all_writes_of held l.items) same
   same_writes held v w (inr clone) = ap (flat_map held) (same_values v.items w.items clone.0)
 
 -- a node and its clone do

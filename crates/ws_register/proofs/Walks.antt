@@ -10,7 +10,7 @@ use Rattle.std.proofs.Common.{sym, ap, subst, ◌∙◌, inl, inr, eqb, Bor, ari
 use Rattle.ws_version.specs.Writes.{Held, Write, path_cmp, held_cmp, greater_held}
 use Rattle.ws_version.specs.Laws.{held_cmp_total, held_cmp-IsAntisymmetric}
 use Rattle.ws_version.proofs.Writes.{path_cmp_total, path_cmp-IsAntisymmetric}
-use Rattle.ws_register.specs.Pages.{values, Ascends, AllBelow, joined_writes}
+use Rattle.ws_register.specs.Pages.{values, Ascends, AllPathsBelow, joined_writes}
 use Rattle.ws_register.proofs.Joined.{joined-front, joined-both, joined-known, joined-nothing, joined-to_nothing, joined-turned}
 use Rattle.ws_register.proofs.Order.{Precedes, all-append, all-weaker, sorted-rest, sorted-second, sorted-front, sorted-precedes, precedes-first, precedes-sorted}
 
@@ -20,21 +20,21 @@ less_from Equal e = cc
 less_from Greater e = cc
 
 -- ---- what is passed
-lower_all : (W : List Write) (j k : List ℕ) → path_cmp j k ≡ Less → AllBelow W j → AllBelow W k
+lower_all : (W : List Write) (j k : List ℕ) → path_cmp j k ≡ Less → AllPathsBelow W j → AllPathsBelow W k
 lower_all W j k lt h = all-weaker (λ (w : Write). path_cmp w.0 j ≡ Less) (λ (w : Write). path_cmp w.0 k ≡ Less) (λ w e. path_cmp_total.trans w.0 j k e lt) W h
 
 -- where the last is below a path, all are
-pub ends-below : (W front : List Write) (last : Write) (path : List ℕ) (b : Bool) → W ≡ front ++ last ∷ [] → b ≡ is_lt (path_cmp last.0 path) → b ≡ true → Ascends W → AllBelow W path
+pub ends-below : (W front : List Write) (last : Write) (path : List ℕ) (b : Bool) → W ≡ front ++ last ∷ [] → b ≡ is_lt (path_cmp last.0 path) → b ≡ true → Ascends W → AllPathsBelow W path
 ends-below W front last path b cut is so h =
     let lt : path_cmp last.0 path ≡ Less = less_from (path_cmp last.0 path) (sym is ∙ so) in
     let below = precedes-first path_cmp front last [] (sorted-precedes path_cmp front (last ∷ []) (subst Ascends cut h)) in
-    subst (λ l. AllBelow l path) (sym cut) (all-append (λ (w : Write). path_cmp w.0 path ≡ Less) front (last ∷ []) (lower_all front last.0 path lt below) (lt, tt))
+    subst (λ l. AllPathsBelow l path) (sym cut) (all-append (λ (w : Write). path_cmp w.0 path ≡ Less) front (last ∷ []) (lower_all front last.0 path lt below) (lt, tt))
 
 -- more is passed
-pub pass-more : (A B D F G : List Write) (path : List ℕ) → A ≡ F ++ B → AllBelow F path → B ≡ G ++ D → AllBelow G path → (front : List Write) × (A ≡ front ++ D) × AllBelow front path
+pub pass-more : (A B D F G : List Write) (path : List ℕ) → A ≡ F ++ B → AllPathsBelow F path → B ≡ G ++ D → AllPathsBelow G path → (front : List Write) × (A ≡ front ++ D) × AllPathsBelow front path
 pass-more A B D F G path a f b g = (F ++ G, a ∙ ap (λ l. F ++ l) b ∙ sym (append_assoc F G D), all-append (λ (w : Write). path_cmp w.0 path ≡ Less) F G f g)
 
-pub pass-one : (A D : List Write) (w : Write) (path : List ℕ) (b : Bool) → A ≡ w ∷ D → b ≡ is_lt (path_cmp w.0 path) → b ≡ true → (front : List Write) × (A ≡ front ++ D) × AllBelow front path
+pub pass-one : (A D : List Write) (w : Write) (path : List ℕ) (b : Bool) → A ≡ w ∷ D → b ≡ is_lt (path_cmp w.0 path) → b ≡ true → (front : List Write) × (A ≡ front ++ D) × AllPathsBelow front path
 pass-one A D w path b a is so = (w ∷ [], a, (less_from (path_cmp w.0 path) (sym is ∙ so), tt))
 
 pub still-ascends : (A F B : List Write) → A ≡ F ++ B → Ascends A → Ascends B
@@ -47,7 +47,7 @@ pub shorter : (A F B : List Write) → A ≡ F ++ B → 0 < length F → length 
 shorter A F B a some = omega (arith, simp length-append at (ap length a))
 
 -- ---- what is taken
-pub take-front : (D E A B W front others : List Write) (w : Write) → A ≡ front ++ B → AllBelow front w.0 → W ≡ w ∷ others → E ≡ D ++ front → Ascends A → Ascends W → E ++ joined_writes B W ≡ D ++ joined_writes A W
+pub take-front : (D E A B W front others : List Write) (w : Write) → A ≡ front ++ B → AllPathsBelow front w.0 → W ≡ w ∷ others → E ≡ D ++ front → Ascends A → Ascends W → E ++ joined_writes B W ≡ D ++ joined_writes A W
 take-front D E A B W front others w a below is e g h =
     let precedes : Precedes path_cmp front W = subst (Precedes path_cmp front) (sym is) (precedes-sorted path_cmp path_cmp_total front w others (subst Ascends is h) below) in
     ap (λ l. l ++ joined_writes B W) e ∙ append_assoc D front (joined_writes B W)
@@ -56,7 +56,7 @@ take-front D E A B W front others w a below is e g h =
 pub turned : (A W : List Write) → joined_writes A W ≡ joined_writes W A
 turned A W = joined-turned path_cmp held_cmp path_cmp_total path_cmp-IsAntisymmetric held_cmp_total held_cmp-IsAntisymmetric A W
 
-pub take-front_of_others : (D E A B W front others : List Write) (w : Write) → A ≡ front ++ B → AllBelow front w.0 → W ≡ w ∷ others → E ≡ D ++ front → Ascends A → Ascends W → E ++ joined_writes W B ≡ D ++ joined_writes W A
+pub take-front_of_others : (D E A B W front others : List Write) (w : Write) → A ≡ front ++ B → AllPathsBelow front w.0 → W ≡ w ∷ others → E ≡ D ++ front → Ascends A → Ascends W → E ++ joined_writes W B ≡ D ++ joined_writes W A
 take-front_of_others D E A B W front others w a below is e g h =
     ap (λ l. E ++ l) (turned W B) ∙ take-front D E A B W front others w a below is e g h ∙ ap (λ l. D ++ l) (turned A W)
 
@@ -109,7 +109,7 @@ one_known path a b e =
     ∙ ap (λ (h : Held). (path, h) ∷ joined_writes [] []) (greater_first a b e)
     ∙ ap (λ (l : List Write). (path, a) ∷ l) (joined-nothing path_cmp held_cmp path_cmp_total path_cmp-IsAntisymmetric [] tt)
 
-pub walk-more : (mine theirs left others front next rest tail : List Write) (w : Write) (held : Held) → IsWalked mine theirs left others → others ≡ w ∷ rest → left ≡ front ++ next → AllBelow front w.0 → next ≡ (w.0, held) ∷ tail → is_lt (held_cmp held w.1) ≡ false → IsWalked mine theirs next rest
+pub walk-more : (mine theirs left others front next rest tail : List Write) (w : Write) (held : Held) → IsWalked mine theirs left others → others ≡ w ∷ rest → left ≡ front ++ next → AllPathsBelow front w.0 → next ≡ (w.0, held) ∷ tail → is_lt (held_cmp held w.1) ≡ false → IsWalked mine theirs next rest
 walk-more mine theirs left others front next rest tail w held walked is_others is_left below is_next known =
     let h : Ascends (w ∷ rest) = subst Ascends is_others walked.others_ascend in
     let g : Ascends (front ++ next) = subst Ascends is_left walked.ascends in
@@ -141,7 +141,7 @@ pub first_is : (o : Option (Bor Write)) (next : List Write) (x : Write) → Matc
 first_is None next x h e = cc
 first_is (Some w) next x h e = let f : Some w.now ≡ Some x = e in let same : w.now ≡ x = cc in (h.0, h.1 ∙ ap (λ (z : Write). z ∷ h.0) same)
 
-pub pass-first : (A D R : List Write) (w v : Write) (path : List ℕ) (b : Bool) → A ≡ w ∷ R → A ≡ v ∷ D → b ≡ is_lt (path_cmp w.0 path) → b ≡ true → (front : List Write) × (A ≡ front ++ D) × AllBelow front path
+pub pass-first : (A D R : List Write) (w v : Write) (path : List ℕ) (b : Bool) → A ≡ w ∷ R → A ≡ v ∷ D → b ≡ is_lt (path_cmp w.0 path) → b ≡ true → (front : List Write) × (A ≡ front ++ D) × AllPathsBelow front path
 pass-first A D R w v path b first next is so =
     let both : w ∷ R ≡ v ∷ D = sym first ∙ next in
     let same : w ≡ v = cc in

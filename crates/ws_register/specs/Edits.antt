@@ -28,12 +28,12 @@ pub record IsGreatestCounter (m : Contents) (n : ℕ) : Type 0 where
   pub attained : (n ≡ 0) ⊎ ((q : List ℕ) × (h : Held) × (get m q ≡ Some h) × (h.counter ≡ n))
 
 -- the path is one, and the source is named as the file there
-abbrev pub fits : List ℕ → List ℕ → Bool
-fits path name = is_path path && bytes_eq name (file_name path)
+abbrev pub is_fitting : List ℕ → List ℕ → Bool
+is_fitting path name = is_path path && bytes_eq name (file_name path)
 
 -- Of an edit where that counter is the greatest: the least that holds.
 abbrev pub edit_refusal : ℕ → List ℕ → List ℕ → Option EditError
-edit_refusal greatest path name = cond (not (fits path name)) (Some BadPath) (cond (eqb greatest 18446744073709551615) (Some CounterFull) None)
+edit_refusal greatest path name = cond (not (is_fitting path name)) (Some BadPath) (cond (eqb greatest 18446744073709551615) (Some CounterFull) None)
 
 -- nothing is held there, or a removal
 abbrev pub is_missing : Option Held → Bool

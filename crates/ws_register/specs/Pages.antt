@@ -18,8 +18,8 @@ abbrev pub Ascends : List Write → Type 0
 Ascends W = T (is_sorted path_cmp W)
 
 -- each path is below that one
-abbrev pub AllBelow : List Write → List ℕ → Type 0
-AllBelow W path = AllByRecursion (λ w. path_cmp w.0 path ≡ Less) W
+abbrev pub AllPathsBelow : List Write → List ℕ → Type 0
+AllPathsBelow W path = AllByRecursion (λ w. path_cmp w.0 path ≡ Less) W
 
 -- each path is above that one
 abbrev pub AllAbove : List Write → List ℕ → Type 0

@@ -12,16 +12,16 @@ use Rattle.ws_register.specs.Edits.{Contents, IsGreatestCounter}
 pub use Rattle.ws_register.specs.Edits.{top}
 
 -- path and text, unless it is a removal
-abbrev pub source_of : Write → Option (List ℕ × List ℕ)
-source_of w = option_map (λ text. (w.0, text)) w.1.text
+abbrev pub source_in : Write → Option (List ℕ × List ℕ)
+source_in w = option_map (λ text. (w.0, text)) w.1.text
 
 -- those that aren't removals, path and text
 abbrev pub texts_of : List Write → List (List ℕ × List ℕ)
-texts_of ws = filter_map source_of ws
+texts_of ws = filter_map source_in ws
 
 -- what a replica that took the set of writes shows: the greatest write of each path, in the order of paths
-abbrev pub IsShown : List Write → List Write → Type 0
-IsShown W shown = (m : Contents) × StandsFor held_cmp m W × (shown ≡ entries m)
+abbrev pub AreGreatestWrites : List Write → List Write → Type 0
+AreGreatestWrites W shown = (m : Contents) × StandsFor held_cmp m W × (shown ≡ entries m)
 
 -- the sources of a set of writes: the texts among the greatest write of each path, in the order of paths
 abbrev pub IsSources : List Write → List (List ℕ × List ℕ) → Type 0
@@ -32,12 +32,12 @@ abbrev pub is_in : List ℕ → List ℕ → Bool
 is_in dir path = bytes_eq (directory path) dir
 
 -- with its file name in the place of its path
-abbrev pub named : List ℕ × List ℕ → List ℕ × List ℕ
-named source = (file_name source.0, source.1)
+abbrev pub by_file_name : List ℕ × List ℕ → List ℕ × List ℕ
+by_file_name source = (file_name source.0, source.1)
 
 -- the files of a directory, name and text, in the order of the sources
 abbrev pub files_in : List ℕ → List (List ℕ × List ℕ) → List (List ℕ × List ℕ)
-files_in dir sources = map named (filter (λ source. is_in dir source.0) sources)
+files_in dir sources = map by_file_name (filter (λ source. is_in dir source.0) sources)
 
 -- the name and the text of a source
 abbrev pub pair_of : Source → List ℕ × List ℕ
@@ -45,22 +45,22 @@ pair_of source = (source.name, source.text)
 
 -- the file that one write is in a directory, if it is one
 abbrev pub file_in : List ℕ → Write → Option (List ℕ × List ℕ)
-file_in dir w = cond (is_in dir w.0) (option_map named (source_of w)) None
+file_in dir w = cond (is_in dir w.0) (option_map by_file_name (source_in w)) None
 
 -- a source text, of bytes, at the path of a file
-pub record IsSource (source : List ℕ × List ℕ) : Type 0 where
+pub record IsFileSource (source : List ℕ × List ℕ) : Type 0 where
   pub path : is_path source.0 ≡ true
   pub text : IsText source.1
 
 -- the sources of a set of writes are such
 abbrev pub HasFiles : List Write → Type 0
-HasFiles W = (S : List (List ℕ × List ℕ)) → IsSources W S → (source : List ℕ × List ℕ) → Contains S source → IsSource source
+HasFiles W = (S : List (List ℕ × List ℕ)) → IsSources W S → (source : List ℕ × List ℕ) → Contains S source → IsFileSource source
 
 -- what is held at each path is of a file
 abbrev pub HoldsFiles : Contents → Type 0
 HoldsFiles m = (path : List ℕ) (held : Held) → get m path ≡ Some held → IsOfFile (path, held)
 
 -- what registers keep of their contents
-pub record IsKept (m : Contents) (greatest : ℕ) : Type 0 where
+pub record RegistersInvariant (m : Contents) (greatest : ℕ) : Type 0 where
   pub counter : IsGreatestCounter m greatest
   pub files : HoldsFiles m

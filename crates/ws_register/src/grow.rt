@@ -4,7 +4,7 @@ ghost use Rattle.std.specs.Prelude.{◌≡◌, ◌+◌, take, drop, IfOk, OnOk, 
 ghost use Rattle.std.specs.Arc.{arc_value};
 ghost use Rattle.std.specs.FinMap.{put};
 ghost use Rattle.ws_version.specs.Writes.{path_cmp};
-ghost use Rattle.ws_register.specs.Pages.{Ascends, AllBelow, AllAbove};
+ghost use Rattle.ws_register.specs.Pages.{Ascends, AllPathsBelow, AllAbove};
 ghost use Rattle.ws_register.specs.Nodes.{writes_below, all_nodes};
 
 use crate::node::{FULL, Node};
@@ -28,7 +28,7 @@ pub fn put(alloc: Global, nodes: &mut Vec<Arc<Node>>, write: Write) -> Result<()
 fn with_room(alloc: Global, nodes: &mut Vec<Arc<Node>>, path: &str) -> Result<usize, AllocError>
     requires { Ascends (all_nodes nodes.old.items) }
     ensures same { all_nodes nodes.new.items ≡ all_nodes nodes.old.items }
-    ensures below { IfOk result (λ at. AllBelow (all_nodes (take at nodes.new.items)) path.now) }
+    ensures below { IfOk result (λ at. AllPathsBelow (all_nodes (take at nodes.new.items)) path.now) }
     ensures above { IfOk result (λ at. AllAbove (all_nodes (drop (at + 1) nodes.new.items)) path.now) }
 {
     let at = node_at(nodes, path);
@@ -65,7 +65,7 @@ fn put_at(
     write: Write,
 ) -> Result<(), AllocError>
     requires ascends { Ascends (all_nodes nodes.old.items) }
-    requires below { AllBelow (all_nodes (take at nodes.old.items)) write.0 }
+    requires below { AllPathsBelow (all_nodes (take at nodes.old.items)) write.0 }
     requires above { AllAbove (all_nodes (drop (at + 1) nodes.old.items)) write.0 }
     ensures ok { OnOk result (all_nodes nodes.new.items ≡ put path_cmp write.0 write.1 (all_nodes nodes.old.items)) }
     ensures err { OnErr result (all_nodes nodes.new.items ≡ all_nodes nodes.old.items) }

@@ -22,10 +22,10 @@ ghost use Rattle.ws_version.specs.Writes.{Write as AWrite, Held as AHeld, held_c
 ghost use Rattle.ws_register.specs.Texted.{texted};
 ghost use Rattle.ws_register.specs.Pages.{Ascends};
 ghost use Rattle.ws_register.specs.Between.{is_from, is_past, is_between};
-ghost use Rattle.ws_register.specs.Sources.{texts_of, is_in, file_in, files_in, pair_of, IsShown, IsSources, HasFiles};
+ghost use Rattle.ws_register.specs.Sources.{texts_of, is_in, file_in, files_in, pair_of, AreGreatestWrites, IsSources, HasFiles};
 ghost use Rattle.ws_register.specs.declared.EditError.TheVariants.{Memory};
 ghost use Rattle.ws_register.specs.News.{TakesAt, HoldBothAt};
-ghost use Rattle.ws_register.specs.Edits.{top, greatest_at, greatest_counter, fits, is_missing, edit_refusal, removal_refusal, IsRefusal, edited, removed};
+ghost use Rattle.ws_register.specs.Edits.{top, greatest_at, greatest_counter, is_fitting, is_missing, edit_refusal, removal_refusal, IsRefusal, edited, removed};
 
 use crate::pages::Pages;
 use crate::rest::Rest;
@@ -80,11 +80,11 @@ impl Model for Registers {
 
     ghost coded = { finite.code (coded_list coded_ℕ) held_code };
 
-    ghost use Rattle.ws_register.specs.Sources.{IsKept};
+    ghost use Rattle.ws_register.specs.Sources.{RegistersInvariant};
 
     ghost view = { λ a. a.held };
 
-    ghost invariant = { λ a. IsKept a.held a.greatest };
+    ghost invariant = { λ a. RegistersInvariant a.held a.greatest };
 }
 
 impl Registers {
@@ -140,7 +140,7 @@ impl Registers {
     /// Copies of the held writes, removals too, in path order. An `Err` is for want of memory.
     pub fn writes(&self) -> Result<Vec<Write>, AllocError>
         ensures ok { IfOk result (λ writes. writes.items ≡ map.entries self.now) }
-        ensures stands { IfOk result (λ writes. (W : List AWrite) → StandsFor held_cmp self.now W → IsShown W writes.items) }
+        ensures stands { IfOk result (λ writes. (W : List AWrite) → StandsFor held_cmp self.now W → AreGreatestWrites W writes.items) }
     {
         let writes = list_of(self.alloc, self.held.iter())?;
         Ok(writes)
@@ -276,8 +276,8 @@ impl Registers {
 // The path, if it is one, and this the name of the file there.
 fn fitting(text: String, name: &str) -> Option<FilePath>
     ensures path { IfSome result (λ path. path ≡ string_bytes text) }
-    ensures allowed { IfSome result (λ _. fits (string_bytes text) name.now ≡ true) }
-    ensures refused { IfNone result (fits (string_bytes text) name.now ≡ false) }
+    ensures allowed { IfSome result (λ _. is_fitting (string_bytes text) name.now ≡ true) }
+    ensures refused { IfNone result (is_fitting (string_bytes text) name.now ≡ false) }
 {
     let path = FilePath::new(text)?;
     if name != file_name(path.as_str()) {

@@ -2,7 +2,7 @@
 
 ghost use Rattle.std.specs.Prelude.{◌≡◌, ◌<◌, ◌+◌, ℕ, List, [], ◌∷◌, ◌++◌, ◌⊎◌, length, true, false, IfOk, OnOk};
 ghost use Rattle.ws_version.specs.Writes.{Write as AWrite, Held as AHeld, greater_held};
-ghost use Rattle.ws_register.specs.Pages.{Ascends, AllBelow, BeginAlike, joined_writes};
+ghost use Rattle.ws_register.specs.Pages.{Ascends, AllPathsBelow, BeginAlike, joined_writes};
 ghost use Rattle.ws_register.specs.Listed.{all_writes};
 ghost use Rattle.ws_register.specs.Nodes.{all_nodes};
 
@@ -101,8 +101,8 @@ fn take_step(
 // Adds the first write of a walk, which is below a path, or the first page where all of it is.
 fn take_below(rest: &mut Rest<'_>, path: &str, draft: &mut Draft) -> Result<(), AllocError>
     requires ascends { Ascends rest.old }
-    requires below { (w : AWrite) × (ws : List AWrite) × (rest.old ≡ w ∷ ws) × AllBelow (w ∷ []) path.now }
-    ensures taken { OnOk result ((front : List AWrite) × (rest.old ≡ front ++ rest.new) × AllBelow front path.now × (draft.new ≡ draft.old ++ front)) }
+    requires below { (w : AWrite) × (ws : List AWrite) × (rest.old ≡ w ∷ ws) × AllPathsBelow (w ∷ []) path.now }
+    ensures taken { OnOk result ((front : List AWrite) × (rest.old ≡ front ++ rest.new) × AllPathsBelow front path.now × (draft.new ≡ draft.old ++ front)) }
     ensures fewer { OnOk result (length rest.new < length rest.old) }
 {
     if let Some(page) = rest.next_page_below(path) {

@@ -7,7 +7,7 @@ ghost use Rattle.std.specs.FinMap.{put};
 ghost use Rattle.ws_map.specs.Kept.{joined, taken, is_news};
 ghost use Rattle.ws_version.specs.Writes.{Write as AWrite, path_cmp, held_cmp, greater_held};
 ghost use Rattle.ws_register.specs.Nodes.{all_nodes};
-ghost use Rattle.ws_register.specs.Pages.{contents, AllBelow, Ascends};
+ghost use Rattle.ws_register.specs.Pages.{contents, AllPathsBelow, Ascends};
 
 use crate::news::are_known;
 use crate::node::Node;
@@ -160,7 +160,7 @@ impl Pages {
 
     /// The writes in the order of paths, without some whose paths are below that one.
     pub fn iter_from(&self, path: &str) -> Rest<'_>
-        ensures { (front : List AWrite) × (map.entries self.now ≡ front ++ result) × AllBelow front path.now }
+        ensures { (front : List AWrite) × (map.entries self.now ≡ front ++ result) × AllPathsBelow front path.now }
     {
         let list = self.list();
         let at = search::node_at(list, path);

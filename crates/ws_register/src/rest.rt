@@ -4,7 +4,7 @@ ghost use Rattle.std.specs.Prelude.{◌≡◌, ◌<◌, List, [], ◌∷◌, ◌
 ghost use Rattle.std.specs.Arc.{arc_value};
 ghost use Rattle.std.specs.Ordering.{is_lt};
 ghost use Rattle.ws_version.specs.Writes.{Write as AWrite, path_cmp};
-ghost use Rattle.ws_register.specs.Pages.{values, Ascends, AllBelow, joined_writes};
+ghost use Rattle.ws_register.specs.Pages.{values, Ascends, AllPathsBelow, joined_writes};
 ghost use Rattle.ws_register.specs.Listed.{writes_of};
 ghost use Rattle.ws_register.specs.Nodes.{all_nodes};
 
@@ -49,7 +49,7 @@ impl<'a> Rest<'a> {
     /// All writes of some nodes, without some whose paths are below that one.
     pub fn from(nodes: &'a [Arc<Node>], path: &str) -> Rest<'a>
         requires { Ascends (all_nodes nodes.now) }
-        ensures { (front : List AWrite) × (all_nodes nodes.now ≡ front ++ result) × AllBelow front path.now }
+        ensures { (front : List AWrite) × (all_nodes nodes.now ≡ front ++ result) × AllPathsBelow front path.now }
     {
         let Some((node, others)) = nodes.split_first() else {
             return Rest::of(nodes);
@@ -121,7 +121,7 @@ impl<'a> Rest<'a> {
     /// Passes the page that comes next, where none is begun and all its paths are below one.
     pub fn next_page_below(&mut self, path: &str) -> Option<&'a Arc<Page>>
         requires { Ascends self.old }
-        ensures { MatchOption result (self.new ≡ self.old) (λ page. (self.old ≡ writes_of page.now.value ++ self.new) × AllBelow (writes_of page.now.value) path.now) }
+        ensures { MatchOption result (self.new ≡ self.old) (λ page. (self.old ≡ writes_of page.now.value ++ self.new) × AllPathsBelow (writes_of page.now.value) path.now) }
     {
         if !self.writes.is_empty() {
             return None;
@@ -137,7 +137,7 @@ impl<'a> Rest<'a> {
     /// Passes all that is below a path and comes first.
     pub fn pass_below(&mut self, path: &str)
         requires { Ascends self.old }
-        ensures { (front : List AWrite) × (self.old ≡ front ++ self.new) × AllBelow front path.now }
+        ensures { (front : List AWrite) × (self.old ≡ front ++ self.new) × AllPathsBelow front path.now }
     {
         'passed: while self.skip_below(path) {}
     }
@@ -145,7 +145,7 @@ impl<'a> Rest<'a> {
     // Passes the first page if all of it is below a path, or the first write if that is.
     fn skip_below(&mut self, path: &str) -> bool
         requires { Ascends self.old }
-        ensures passed { (front : List AWrite) × (self.old ≡ front ++ self.new) × AllBelow front path.now }
+        ensures passed { (front : List AWrite) × (self.old ≡ front ++ self.new) × AllPathsBelow front path.now }
         ensures more { result ≡ true → length self.new < length self.old }
     {
         match self.next_page_below(path) {
@@ -156,7 +156,7 @@ impl<'a> Rest<'a> {
 
     // Passes the first write if it is below a path.
     fn skip_write_below(&mut self, path: &str) -> bool
-        ensures passed { (front : List AWrite) × (self.old ≡ front ++ self.new) × AllBelow front path.now }
+        ensures passed { (front : List AWrite) × (self.old ≡ front ++ self.new) × AllPathsBelow front path.now }
         ensures more { result ≡ true → length self.new < length self.old }
     {
         let Some(first) = self.first() else {
@@ -199,7 +199,7 @@ impl<'a> Rest<'a> {
 }
 
 fn ends_below(page: &Page, path: &str) -> bool
-    ensures { result ≡ true → Ascends (writes_of page.now) → AllBelow (writes_of page.now) path.now }
+    ensures { result ≡ true → Ascends (writes_of page.now) → AllPathsBelow (writes_of page.now) path.now }
 {
     is_below(page.last(), path)
 }

@@ -5,7 +5,7 @@ ghost use Rattle.std.specs.Arc.{arc_value};
 ghost use Rattle.std.specs.FinMap.{find, put};
 ghost use Rattle.std.specs.List.Sorted.{IsSearchInRange};
 ghost use Rattle.ws_version.specs.Writes.{Held as AHeld, path_cmp};
-ghost use Rattle.ws_register.specs.Pages.{values, Ascends, AllBelow, AllAbove};
+ghost use Rattle.ws_register.specs.Pages.{values, Ascends, AllPathsBelow, AllAbove};
 ghost use Rattle.ws_register.specs.Listed.{writes_of, all_writes, all_with};
 ghost use Rattle.ws_register.specs.Nodes.{writes_below, all_nodes};
 ghost use Rattle.ws_register.specs.Search.{first_path};
@@ -21,7 +21,7 @@ pub fn place(writes: &[Arc<Write>], path: &str) -> Result<usize, usize>
     requires { Ascends (values writes.now) }
     ensures within { IsSearchInRange result (length writes.now) }
     ensures found { IfOk result (λ at. (held : AHeld) × (slice_get (values writes.now) at ≡ Some (path.now, held))) }
-    ensures below { IfErr result (λ at. AllBelow (take at (values writes.now)) path.now) }
+    ensures below { IfErr result (λ at. AllPathsBelow (take at (values writes.now)) path.now) }
     ensures above { IfErr result (λ at. AllAbove (drop at (values writes.now)) path.now) }
 {
     writes.binary_search_by(
@@ -59,7 +59,7 @@ pub fn around<'a>(writes: &'a [Arc<Write>], path: &str) -> (&'a [Arc<Write>], &'
 pub fn page_at(pages: &[Arc<Page>], path: &str) -> usize
     requires { Ascends (all_writes pages.now) }
     ensures within { result ≤ length pages.now }
-    ensures below { AllBelow (all_writes (take result pages.now)) path.now }
+    ensures below { AllPathsBelow (all_writes (take result pages.now)) path.now }
     ensures above { AllAbove (all_writes (drop (result + 1) pages.now)) path.now }
 {
     let found = pages.binary_search_by(
@@ -100,7 +100,7 @@ pub fn held_on<'a>(pages: &'a [Arc<Page>], path: &str) -> Option<&'a Held>
 pub fn node_at(nodes: &[Arc<Node>], path: &str) -> usize
     requires { Ascends (all_nodes nodes.now) }
     ensures within { result ≤ length nodes.now }
-    ensures below { AllBelow (all_nodes (take result nodes.now)) path.now }
+    ensures below { AllPathsBelow (all_nodes (take result nodes.now)) path.now }
     ensures above { AllAbove (all_nodes (drop (result + 1) nodes.now)) path.now }
 {
     let found = nodes.binary_search_by(

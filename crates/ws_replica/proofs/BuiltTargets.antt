@@ -19,10 +19,10 @@ use Rattle.ws_cache.specs.Held.{id_cmp, IsHeld, CacheStandsFor}
 use Rattle.ws_cache.specs.Joined.{lesser}
 use Rattle.ws_cache.proofs.Joined.{one_cache}
 use Rattle.ws_report.specs.declared.Report.{Report}
-use Rattle.ws_replica.specs.Builds.{took_at, held_at, held_by, builds, StandsAfter, AreBuilds, AreBuilt, AreBuiltFrom, AllTookSized, HoldAll}
+use Rattle.ws_replica.specs.Builds.{took_at, held_at, held_by, builds, StandsAfter, AreBuildsOfTargets, AreBuilt, AreBuiltFrom, AllTookSized, HoldAll}
 use Rattle.ws_replica.specs.Holdings.{Replica, ReplicaStandsFor, Took, AllStandFor}
-use Rattle.ws_replica.specs.Jobs.{Reached, rows_of, IsRun}
-use Rattle.ws_replica.specs.Parts.{Part, IsPartOf, IsRunOf}
+use Rattle.ws_replica.specs.Jobs.{ReachedDirectory, report_rows, IsRun}
+use Rattle.ws_replica.specs.Parts.{TargetPart, IsPartOf, IsRunOf}
 use Rattle.ws_replica.specs.Reports.{TargetBuild, report_of, all_actions}
 use Rattle.ws_replica.specs.Targets.{directories_at, IsReached, AreReached, IsOpening, HaveCache, TakeResults}
 use Rattle.ws_replica.proofs.Numbered.{some_same}
@@ -122,7 +122,7 @@ actions_same E A B same a = (one_way A B (λ x. (same x).0) a, one_way B A (λ x
       | inr r ↦ Contains-append_right E Y a (h a r)
     ]
 
-pub are_built_from : (edition : Edition) (old : List Replica) (took : List Took) (targets : List (ℕ × List ℕ)) → AllStandFor old took → AllTookSized took → (all : List (List Reached)) → AreReached edition old targets all → (parts : List Part) → AllZip (IsPartOf all) targets parts
+pub are_built_from : (edition : Edition) (old : List Replica) (took : List Took) (targets : List (ℕ × List ℕ)) → AllStandFor old took → AllTookSized took → (all : List (List ReachedDirectory)) → AreReached edition old targets all → (parts : List TargetPart) → AllZip (IsPartOf all) targets parts
     → (opening : FinMap id_cmp Action) → CacheStandsFor opening (held_by took targets) → (reports : List Report) (added : FinMap id_cmp Action) → IsRunOf opening all parts reports added → AreBuiltFrom edition took targets reports (joined lesser opening added)
 are_built_from edition old took targets stand sized all reached parts parts_are opening stands reports added run =
     let pieces : Pieces edition took targets 0 all = pieces_of edition old took stand targets 0 all (λ k rs at. subst (λ n. IsReached edition old targets n rs) (let z : k ≡ 0 + k = omega arith in z) (reached.are k rs at)) in
@@ -138,15 +138,15 @@ are_built_from edition old took targets stand sized all reached parts parts_are 
     let E : List Action = held_by took targets in
     record {
       all = bs;
-      are = subst (λ ts. AreBuilds edition took ts bs) owns.targets_are (owns_are edition took ps run.told os);
+      are = subst (λ ts. AreBuildsOfTargets edition took ts bs) owns.targets_are (owns_are edition took ps run.told os);
       right = λ no_clash.
           let clear : AreClear E (all_actions edition us) = record { sized = held_sized took targets sized; clear = hashed_same E (all_actions edition bs) (all_actions edition us) (λ a. (same a).1) no_clash } in
-          let says : map rows_of run.told ≡ map report_of us = run_says edition took ps opening E stands run.told added its_run clear in
+          let says : map report_rows run.told ≡ map report_of us = run_says edition took ps opening E stands run.told added its_run clear in
           let counts : (r : Report) → Contains run.told r → r.compiled ≡ compiled_count E (all_actions edition bs) =
           λ r c. run_counts edition took ps opening E stands run.told added its_run clear r c ∙ sym (same_count E (all_actions edition bs) (all_actions edition us) same) in
           record {
             told = record {
-              reports = subst (λ rs. map rows_of rs ≡ map report_of bs) owns.reports_are (owns_tell edition took ps run.told says os);
+              reports = subst (λ rs. map report_rows rs ≡ map report_of bs) owns.reports_are (owns_tell edition took ps run.told says os);
               counts = subst (λ (rs : List Report). (r : Report) → Contains rs r → r.compiled ≡ compiled_count E (all_actions edition bs)) owns.reports_are
                   (owns_count edition took ps run.told (compiled_count E (all_actions edition bs)) counts os);
             };
@@ -186,7 +186,7 @@ module _ (edition : Edition) (old new : List Replica) (took : List Took) (target
     stand_after k t r its at =
         subst (λ b. ReplicaStandsFor r t.writes (if b then t.actions ++ (held_by took targets ++ C) else t.actions)) refl (stands_if k t r its at (builds targets k) refl)
 
-  pub are_built : AllTookSized took → (all : List (List Reached)) → AreReached edition old targets all → (parts : List Part) → AllZip (IsPartOf all) targets parts → (holders : List ℕ) → HoldAll took holders targets → (opening : FinMap id_cmp Action) → IsOpening old holders opening
+  pub are_built : AllTookSized took → (all : List (List ReachedDirectory)) → AreReached edition old targets all → (parts : List TargetPart) → AllZip (IsPartOf all) targets parts → (holders : List ℕ) → HoldAll took holders targets → (opening : FinMap id_cmp Action) → IsOpening old holders opening
       → (reports : List Report) (added : FinMap id_cmp Action) → IsRunOf opening all parts reports added → TakeResults holders targets added old new → AreBuilt edition took targets reports new
   are_built sized all reached parts parts_are holders hold opening opens reports added run take =
       let E : List Action = held_by took targets in

@@ -9,7 +9,7 @@ use Rattle.go_text.specs.declared.edition.Edition.{Edition}
 use Rattle.go_ast.specs.Parse.{Parsed}
 use Rattle.go_ast.specs.Trees.{File}
 use Rattle.go_typed.specs.Trees.{Package}
-use Rattle.go_check.specs.Checked.{edition_of, fmt}
+use Rattle.go_check.specs.Checked.{package_edition, fmt}
 use Rattle.go_check.specs.Names.{importable_of}
 use Rattle.go_init.specs.Packages.{package_order}
 use Rattle.go_init.proofs.Orders as orders
@@ -23,7 +23,7 @@ use Rattle.ws_cache.specs.Compiles.{AreGood}
 use Rattle.ws_graph.specs.Packages.{package_files}
 use Rattle.ws_graph.specs.Plan.{IsSound}
 use Rattle.ws_graph.specs.BuildPlan.{Directory, IsBuildPlanOf, IsPlannedAs, paths_of}
-use Rattle.ws_replica.specs.Reports.{Fate, Good, fate_at, ArePackages, IsReady, IsFate, AreFates}
+use Rattle.ws_replica.specs.Reports.{DirectoryOutcome, Good, outcome_at, ArePackages, IsReady, IsDirectoryOutcome, AreDirectoryOutcomes}
 use Rattle.ws_replica.proofs.Numbered.{at_member, member_at}
 use Rattle.ws_replica.proofs.OneBuild.{fate_of, at_fate}
 use Rattle.ws_replica.proofs.OrderedPackages.{one_number, cut_at, number_of, package_of, one_good}
@@ -43,11 +43,11 @@ abbrev pub rows_of : List Directory → List (List ℕ)
 rows_of ds = map (λ (d : Directory). d.imports) ds
 
 -- numbers of good directories, each once and behind the good ones that it imports
-pub record AreOrdered (ds : List Directory) (fates : List Fate) (ordered : List ℕ) : Type 0 where
-  pub behind : (before after : List ℕ) (k j : ℕ) → ordered ≡ before ++ k ∷ after → Edge (rows_of ds) k j → j < length (rows_of ds) → (q : Package) → fate_at fates j ≡ Good q → Contains before j
+pub record AreOrdered (ds : List Directory) (fates : List DirectoryOutcome) (ordered : List ℕ) : Type 0 where
+  pub behind : (before after : List ℕ) (k j : ℕ) → ordered ≡ before ++ k ∷ after → Edge (rows_of ds) k j → j < length (rows_of ds) → (q : Package) → outcome_at fates j ≡ Good q → Contains before j
   pub once : (before after : List ℕ) (k : ℕ) → ordered ≡ before ++ k ∷ after → ¬ (Contains before k)
 
-module _ (edition : Edition) (W : List Write) (has : HasFiles W) (target : List ℕ) (ds : List Directory) (fates : List Fate) (of : IsBuildPlanOf edition W target ds) (are : AreFates ds fates) (numbers : List ℕ) (stand : AreOrdered ds fates numbers) (packages : List Package) (order : ArePackages fates numbers packages) where
+module _ (edition : Edition) (W : List Write) (has : HasFiles W) (target : List ℕ) (ds : List Directory) (fates : List DirectoryOutcome) (of : IsBuildPlanOf edition W target ds) (are : AreDirectoryOutcomes ds fates) (numbers : List ℕ) (stand : AreOrdered ds fates numbers) (packages : List Package) (order : ArePackages fates numbers packages) where
   -- the directory of a package, at that place in their order
   pub record Placed (place : ℕ) (p : Package) : Type 0 where
     pub number : ℕ
@@ -65,7 +65,7 @@ module _ (edition : Edition) (W : List Write) (has : HasFiles W) (target : List 
       let k = number_of fates numbers packages order place p at in
       let d = package_at ds fates are k.0 p k.2 in
       let f = fate_of fates ds fates are k.0 d.0 d.1 in
-      let is : IsFate fates d.0 (Good p) = subst (IsFate fates d.0) (sym (at_fate fates k.0 f.fate f.at) ∙ k.2) f.is in
+      let is : IsDirectoryOutcome fates d.0 (Good p) = subst (IsDirectoryOutcome fates d.0) (sym (at_fate fates k.0 f.fate f.at) ∙ k.2) f.is in
       record { number = k.0; at = k.1; directory = d.0; there = d.1; path = d.2; files = is.0; imports = is.1; ready = is.2; good = is.3 }
 
   module _ (place : ℕ) (p : Package) (its : Placed place p) where
@@ -85,7 +85,7 @@ module _ (edition : Edition) (W : List Write) (has : HasFiles W) (target : List 
     inside j c = (let lt = plan_inside edition W target ds of directory among j c in omega (arith, lt, length-map ds (λ (d : Directory). d.imports)))
 
     module _ (others : List Package) (same : AreBefore packages place others) where
-      found_at : (i k : ℕ) → i < place → slice_get numbers i ≡ Some k → (q : Package) → fate_at fates k ≡ Good q → Contains others q
+      found_at : (i k : ℕ) → i < place → slice_get numbers i ≡ Some k → (q : Package) → outcome_at fates k ≡ Good q → Contains others q
       found_at i k lt at q is =
           let found = package_of fates numbers packages order i k at in
           (same q).1 (i, lt, found.1 ∙ ap Some (one_good fates k found.0 q found.2 is))
@@ -124,7 +124,7 @@ module _ (edition : Edition) (W : List Write) (has : HasFiles W) (target : List 
     abbrev trees : List File
     trees = its.good.are.trees
 
-    texts : AreOfTexts (edition_of its.files) trees
+    texts : AreOfTexts (package_edition its.files) trees
     texts =
         subst (λ e. AreOfTexts e trees) (sym (sound_edition edition (package_files directory.path of.0) its.files sound))
         (trees_are_of_texts edition its.files trees sound.parses.parses its.good.are.parse (files_are_text edition W has of.0 of.1 directory.path its.files sound))
@@ -132,7 +132,7 @@ module _ (edition : Edition) (W : List Write) (has : HasFiles W) (target : List 
     is_checked : (others : List Package) → AreBefore packages place others → IsChecked others p
     is_checked others same = record {
       path = directory.path;
-      edition = edition_of its.files;
+      edition = package_edition its.files;
       files = trees;
       names = map (λ (f : Parsed). f.name) its.files;
       libraries = fmt ∷ [];
@@ -151,14 +151,14 @@ module _ (edition : Edition) (W : List Write) (has : HasFiles W) (target : List 
   pub ordered_checked : AreChecked packages
   ordered_checked = checked_each packages (λ place p at others same. is_checked place p (placed place p at) others same)
 
-ordered_once : (ds : List Directory) (fates : List Fate) → AreOrdered ds fates (package_order (rows_of ds))
+ordered_once : (ds : List Directory) (fates : List DirectoryOutcome) → AreOrdered ds fates (package_order (rows_of ds))
 ordered_once ds fates = record { behind = λ before after k j whole leads lt q good. orders.behind (rows_of ds) before after k j whole leads lt; once = orders.once (rows_of ds) }
 
 -- in package order, where all are good
-pub all_edition : (edition : Edition) (W : List Write) → HasFiles W → (target : List ℕ) (ds : List Directory) (fates : List Fate) → IsBuildPlanOf edition W target ds → AreFates ds fates
+pub all_edition : (edition : Edition) (W : List Write) → HasFiles W → (target : List ℕ) (ds : List Directory) (fates : List DirectoryOutcome) → IsBuildPlanOf edition W target ds → AreDirectoryOutcomes ds fates
     → (packages : List Package) → ArePackages fates (package_order (rows_of ds)) packages → All (λ (p : Package). p.edition ≡ edition) packages
 all_edition edition W has target ds fates of are packages order = ordered_edition edition W has target ds fates of are (package_order (rows_of ds)) (ordered_once ds fates) packages order
 
-pub all_checked : (edition : Edition) (W : List Write) → HasFiles W → (target : List ℕ) (ds : List Directory) (fates : List Fate) → IsBuildPlanOf edition W target ds → AreFates ds fates
+pub all_checked : (edition : Edition) (W : List Write) → HasFiles W → (target : List ℕ) (ds : List Directory) (fates : List DirectoryOutcome) → IsBuildPlanOf edition W target ds → AreDirectoryOutcomes ds fates
     → (packages : List Package) → ArePackages fates (package_order (rows_of ds)) packages → AreChecked packages
 all_checked edition W has target ds fates of are packages order = ordered_checked edition W has target ds fates of are (package_order (rows_of ds)) (ordered_once ds fates) packages order

@@ -9,8 +9,8 @@ use Rattle.ws_cache.proofs.Crossing.{cache_send, cache_sync}
 use Rattle.ws_replica.specs.contracts.reached.SharedNode as node
 use Rattle.ws_replica.specs.contracts.reached.Shared as shared
 use Rattle.ws_replica.specs.contracts.plan.Plan as plan
-use Rattle.ws_replica.specs.contracts.past.PastFiles as past_files
-use Rattle.ws_replica.specs.contracts.past.Past as past
+use Rattle.ws_replica.specs.contracts.previous.PreviousDirectory as past_files
+use Rattle.ws_replica.specs.contracts.previous.PreviousBuild as past
 use Rattle.ws_replica.specs.contracts.Replica as replica
 use Rattle.ws_replica.specs.contracts.snapshot.Snapshot as snapshot
 

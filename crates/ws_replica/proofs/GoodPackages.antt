@@ -11,7 +11,7 @@ use Rattle.go_init.proofs.Orders as orders
 use Rattle.ws_reach.specs.Reach.{Edge}
 use Rattle.ws_action.proofs.Members.{none_in_empty, head_or_later, at_head, later}
 use Rattle.ws_graph.specs.BuildPlan.{Directory, AreRanks}
-use Rattle.ws_replica.specs.Reports.{Fate, Stopped, Blocked, Wrong, Good, fate_at, ArePackages, IsFate, AreFates}
+use Rattle.ws_replica.specs.Reports.{DirectoryOutcome, Stopped, Blocked, Wrong, Good, outcome_at, ArePackages, IsDirectoryOutcome, AreDirectoryOutcomes}
 use Rattle.ws_replica.proofs.Numbered.{some_same}
 use Rattle.ws_replica.proofs.HeldImages.{there}
 use Rattle.ws_replica.proofs.OneBuild.{fate_of, at_fate}
@@ -81,49 +81,49 @@ in_middle (b ∷ before) after k = later b (before ++ k ∷ after) k (in_middle 
 
 -- ---- the imports of good directories alone
 
-abbrev row_of : Fate → Directory → List ℕ
+abbrev row_of : DirectoryOutcome → Directory → List ℕ
 row_of (Good p) d = d.imports
 row_of fate d = []
 
-abbrev good_rows : List Directory → List Fate → List (List ℕ)
+abbrev good_rows : List Directory → List DirectoryOutcome → List (List ℕ)
 good_rows [] fates = []
 good_rows (d ∷ ds) [] = []
 good_rows (d ∷ ds) (f ∷ fates) = row_of f d ∷ good_rows ds fates
 
-abbrev is_good : Fate → Bool
+abbrev is_good : DirectoryOutcome → Bool
 is_good (Good p) = true
 is_good fate = false
 
-module _ (all : List Fate) where
-  rows_length : (ds : List Directory) (fates : List Fate) → AllZip (IsFate all) ds fates → length (good_rows ds fates) ≡ length ds
+module _ (all : List DirectoryOutcome) where
+  rows_length : (ds : List Directory) (fates : List DirectoryOutcome) → AllZip (IsDirectoryOutcome all) ds fates → length (good_rows ds fates) ≡ length ds
   rows_length [] fates are = refl
   rows_length (d ∷ ds) [] are = absurd are
   rows_length (d ∷ ds) (f ∷ fates) are = ap suc (rows_length ds fates are.1)
 
-  row_at : (ds : List Directory) (fates : List Fate) → AllZip (IsFate all) ds fates → (k : ℕ) (d : Directory) (f : Fate) → slice_get ds k ≡ Some d → slice_get fates k ≡ Some f → slice_get (good_rows ds fates) k ≡ Some (row_of f d)
+  row_at : (ds : List Directory) (fates : List DirectoryOutcome) → AllZip (IsDirectoryOutcome all) ds fates → (k : ℕ) (d : Directory) (f : DirectoryOutcome) → slice_get ds k ≡ Some d → slice_get fates k ≡ Some f → slice_get (good_rows ds fates) k ≡ Some (row_of f d)
   row_at [] fates are k d f at here = absurd (cc (at))
   row_at (e ∷ ds) [] are k d f at here = absurd are
-  row_at (e ∷ ds) (g ∷ fates) are zero d f at here = ap (λ (x : List ℕ). Some x) (ap (row_of g) (some_same e d at) ∙ ap (λ (y : Fate). row_of y d) (some_same g f here))
+  row_at (e ∷ ds) (g ∷ fates) are zero d f at here = ap (λ (x : List ℕ). Some x) (ap (row_of g) (some_same e d at) ∙ ap (λ (y : DirectoryOutcome). row_of y d) (some_same g f here))
   row_at (e ∷ ds) (g ∷ fates) are (suc k) d f at here = row_at ds fates are.1 k d f at here
 
-good_is : (f : Fate) → is_good f ≡ true → (p : Package) × (f ≡ Good p)
+good_is : (f : DirectoryOutcome) → is_good f ≡ true → (p : Package) × (f ≡ Good p)
 good_is (Stopped fault) e = absurd (true≢false (sym e))
 good_is Blocked e = absurd (true≢false (sym e))
 good_is (Wrong fault) e = absurd (true≢false (sym e))
 good_is (Good p) e = (p, refl)
 
-of_row : (f : Fate) (d : Directory) (j : ℕ) → Contains (row_of f d) j → (p : Package) × (f ≡ Good p) × Contains d.imports j
+of_row : (f : DirectoryOutcome) (d : Directory) (j : ℕ) → Contains (row_of f d) j → (p : Package) × (f ≡ Good p) × Contains d.imports j
 of_row (Stopped fault) d j c = absurd (none_in_empty j c)
 of_row Blocked d j c = absurd (none_in_empty j c)
 of_row (Wrong fault) d j c = absurd (none_in_empty j c)
 of_row (Good p) d j c = (p, refl, c)
 
-module _ (ds : List Directory) (fates : List Fate) (are : AreFates ds fates) where
+module _ (ds : List Directory) (fates : List DirectoryOutcome) (are : AreDirectoryOutcomes ds fates) where
   abbrev rows : List (List ℕ)
   rows = good_rows ds fates
 
   abbrev good_at : ℕ → Bool
-  good_at k = is_good (fate_at fates k)
+  good_at k = is_good (outcome_at fates k)
 
   abbrev pub ordered : List ℕ
   ordered = filter good_at (package_order rows)
@@ -132,13 +132,13 @@ module _ (ds : List Directory) (fates : List Fate) (are : AreFates ds fates) whe
   rows_long = rows_length fates ds fates are
 
   -- an import of a good directory is one among good ones
-  edge : (k j : ℕ) (p : Package) → fate_at fates k ≡ Good p → Edge (rows_of ds) k j → Edge rows k j
+  edge : (k j : ℕ) (p : Package) → outcome_at fates k ≡ Good p → Edge (rows_of ds) k j → Edge rows k j
   edge k j p good (row, at, c) =
       let d = there ds k (let lt = slice_get_within (rows_of ds) k row at in omega (arith, lt, length-map ds (λ (d : Directory). d.imports))) in
       let f = fate_of fates ds fates are k d.0 d.1 in
       let same : row ≡ d.0.imports = some_same row d.0.imports (sym at ∙ slice_get-map (λ (d : Directory). d.imports) ds k ∙ ap (option_map (λ (d : Directory). d.imports)) d.1) in
       let its : f.fate ≡ Good p = sym (at_fate fates k f.fate f.at) ∙ good in
-      (row_of f.fate d.0, row_at fates ds fates are k d.0 f.fate d.1 f.at, subst (λ (x : Fate). Contains (row_of x d.0) j) (sym its) (subst (λ (r : List ℕ). Contains r j) same c))
+      (row_of f.fate d.0, row_at fates ds fates are k d.0 f.fate d.1 f.at, subst (λ (x : DirectoryOutcome). Contains (row_of x d.0) j) (sym its) (subst (λ (r : List ℕ). Contains r j) same c))
 
   falls : (rank : ℕ → ℕ) → AreRanks ds rank → (p q : ℕ) → Edge rows p q → rank q < rank p
   falls rank ranks p q (row, at, c) =
@@ -146,16 +146,16 @@ module _ (ds : List Directory) (fates : List Fate) (are : AreFates ds fates) whe
       let f = fate_of fates ds fates are p d.0 d.1 in
       let same : row ≡ row_of f.fate d.0 = some_same row (row_of f.fate d.0) (sym at ∙ row_at fates ds fates are p d.0 f.fate d.1 f.at) in
       let its = of_row f.fate d.0 q (subst (λ (r : List ℕ). Contains r q) same c) in
-      let is : IsFate fates d.0 (Good its.0) = subst (IsFate fates d.0) its.1 f.is in
+      let is : IsDirectoryOutcome fates d.0 (Good its.0) = subst (IsDirectoryOutcome fates d.0) its.1 f.is in
       ranks p q d.0 is.0 d.1 (is.2).sound its.2
 
   pub are_ordered : AreOrdered ds fates ordered
   are_ordered = record { behind = comes_behind; once = comes_once }
     where
-      comes_behind : (before after : List ℕ) (k j : ℕ) → ordered ≡ before ++ k ∷ after → Edge (rows_of ds) k j → j < length (rows_of ds) → (q : Package) → fate_at fates j ≡ Good q → Contains before j
+      comes_behind : (before after : List ℕ) (k j : ℕ) → ordered ≡ before ++ k ∷ after → Edge (rows_of ds) k j → j < length (rows_of ds) → (q : Package) → outcome_at fates j ≡ Good q → Contains before j
       comes_behind before after k j e leads lt q good =
           let w = whole good_at (package_order rows) before after k e in
-          let its = good_is (fate_at fates k) (passes good_at (package_order rows) k (subst (λ (xs : List ℕ). Contains xs k) (sym e) (in_middle before after k))).1 in
+          let its = good_is (outcome_at fates k) (passes good_at (package_order rows) k (subst (λ (xs : List ℕ). Contains xs k) (sym e) (in_middle before after k))).1 in
           let front : Contains w.front j = orders.behind rows w.front w.back k j w.cut (edge k j its.0 its.1 leads) (omega (arith, lt, length-map ds (λ (d : Directory). d.imports), rows_long)) in
           subst (λ (xs : List ℕ). Contains xs j) (sym w.same) (passing good_at w.front j front (ap is_good good))
 
@@ -165,13 +165,13 @@ module _ (ds : List Directory) (fates : List Fate) (are : AreFates ds fates) whe
           orders.once rows w.front w.back k w.cut (passes good_at w.front k (subst (λ (xs : List ℕ). Contains xs k) w.same c)).0
 
   -- each good directory is among them
-  pub all_ordered : (rank : ℕ → ℕ) → AreRanks ds rank → (k : ℕ) (p : Package) → fate_at fates k ≡ Good p → Contains ordered k
+  pub all_ordered : (rank : ℕ → ℕ) → AreRanks ds rank → (k : ℕ) (p : Package) → outcome_at fates k ≡ Good p → Contains ordered k
   all_ordered rank ranks k p good =
       let d = package_at ds fates are k p good in
       let lt = slice_get_within ds k d.0 d.1 in
       passing good_at (package_order rows) k (orders.ranked rows rank (falls rank ranks) k (omega (arith, lt, rows_long))) (ap is_good good)
 
-  packages_by : (ks : List ℕ) → ((k : ℕ) → Contains ks k → (p : Package) × (fate_at fates k ≡ Good p)) → (ps : List Package) × ArePackages fates ks ps
+  packages_by : (ks : List ℕ) → ((k : ℕ) → Contains ks k → (p : Package) × (outcome_at fates k ≡ Good p)) → (ps : List Package) × ArePackages fates ks ps
   packages_by [] h = ([], tt)
   packages_by (k ∷ ks) h =
       let first = h k (at_head ks k k refl) in
@@ -180,4 +180,4 @@ module _ (ds : List Directory) (fates : List Fate) (are : AreFates ds fates) whe
 
   -- their packages
   pub all_packages : (ps : List Package) × ArePackages fates ordered ps
-  all_packages = packages_by ordered (λ k c. good_is (fate_at fates k) (passes good_at (package_order rows) k c).1)
+  all_packages = packages_by ordered (λ k c. good_is (outcome_at fates k) (passes good_at (package_order rows) k c).1)

@@ -16,7 +16,7 @@ use Rattle.go_gen.specs.Translation.{object_of}
 use Rattle.go_init.specs.Packages.{package_order}
 use Rattle.go_init.proofs.Orders.{below, ranked}
 use Rattle.go_link.specs.declared.link.LinkError.{LinkError}
-use Rattle.go_link.specs.Links.{in_order, link_refusal, linked}
+use Rattle.go_link.specs.Links.{objects_in_order, link_refusal, linked}
 use Rattle.go_translation_laws.proofs.Refusals.{linked_program}
 use Rattle.ws_version.specs.Writes.{Write}
 use Rattle.ws_register.specs.Sources.{HasFiles}
@@ -24,12 +24,12 @@ use Rattle.ws_action.specs.Actions.{Action, action_id}
 use Rattle.ws_action.specs.Clash.{NoClash, AllSized, Includes, hashed, hashed_actions}
 use Rattle.ws_action.proofs.Members.{at_head, later}
 use Rattle.ws_action.proofs.OneAction.{one_action}
-use Rattle.ws_board.specs.declared.work.Status.{Status}
-use Rattle.ws_board.specs.declared.work.Status.TheVariants.{Waiting, Ready, Running, Blocked as Stays, Done}
-use Rattle.ws_board.specs.Machine.{Held, held, is_good_result, status_at, action_at}
+use Rattle.ws_board.specs.declared.work.JobStatus.{JobStatus}
+use Rattle.ws_board.specs.declared.work.JobStatus.TheVariants.{Waiting, Ready, Running, Blocked as Stays, Done}
+use Rattle.ws_board.specs.Machine.{Holdings, held, is_good_result, status_at, action_at}
 use Rattle.ws_board.specs.Calls.{result_of, result_at}
 use Rattle.ws_board.specs.Work.{Seen, Opening}
-use Rattle.ws_board.specs.Ends.{End, came_of, AllGood, IsShown}
+use Rattle.ws_board.specs.Ends.{End, end_result, AllGood, IsEndOfJob}
 use Rattle.ws_board.specs.Ends as ends
 use Rattle.ws_cache.specs.Compiles.{Compiled, Compiles}
 use Rattle.ws_cache.specs.Compiles as compiled
@@ -39,9 +39,9 @@ use Rattle.ws_cache.proofs.Outcomes.{one_outcome}
 use Rattle.ws_graph.specs.BuildPlan.{Directory, IsBuildPlanOf, AreRanks}
 use Rattle.ws_graph.proofs.RankedPlan.{ranked_build_plan}
 use Rattle.ws_replica.specs.Jobs.{reached_by}
-use Rattle.ws_replica.specs.Opened.{IsOpened, IsObjectAt, LacksObjectAt, AreObjects, SomeLacks}
+use Rattle.ws_replica.specs.Stopped.{IsOpened, IsObjectAt, LacksObjectAt, AreObjects, SomeLacks}
 use Rattle.ws_replica.specs.Programs.{IsGood, IsHeldProgram, IsImageOf}
-use Rattle.ws_replica.specs.Reports.{Fate, Stopped, Blocked, Wrong, Good, ArePackages, IsFate, AreFates, TargetBuild, actions_of, action_in}
+use Rattle.ws_replica.specs.Reports.{DirectoryOutcome, Stopped, Blocked, Wrong, Good, ArePackages, IsDirectoryOutcome, AreDirectoryOutcomes, TargetBuild, actions_of, action_in}
 use Rattle.ws_replica.proofs.EndFates.{end_of, end_in, came_here, action_is}
 use Rattle.ws_replica.proofs.Numbered.{some_same, at_member}
 use Rattle.ws_replica.proofs.Numbered as numbered
@@ -58,7 +58,7 @@ object_in ends.Blocked = None
 object_in (ends.Came a (compiled.Good s o)) = Some o
 object_in (ends.Came a (compiled.Faulty f)) = None
 
-object_here : (edition : Edition) (fates : List Fate) (d : Directory) (f : Fate) → IsFate fates d f → (a : Action) (r : Compiled) (o : Object) → end_of edition fates d f ≡ ends.Came a r → object_in (ends.Came a r) ≡ Some o → (p : Package) × (f ≡ Good p) × (o ≡ object_of p)
+object_here : (edition : Edition) (fates : List DirectoryOutcome) (d : Directory) (f : DirectoryOutcome) → IsDirectoryOutcome fates d f → (a : Action) (r : Compiled) (o : Object) → end_of edition fates d f ≡ ends.Came a r → object_in (ends.Came a r) ≡ Some o → (p : Package) × (f ≡ Good p) × (o ≡ object_of p)
 object_here edition fates d (Stopped fault) h a r o e is = cc (e)
 object_here edition fates d Blocked h a r o e is = cc (e)
 object_here edition fates d (Wrong fault) h a r o e is =
@@ -125,20 +125,20 @@ is_there : (E : List Action) (its : Action) (o rest : Option Action) → Contain
 is_there E its None rest c h = absurd (h its c refl)
 is_there E its (Some a) rest c h = (a, refl)
 
-result_done : (at : Held) (s : Status) (good : Bool) (o : Option Action) (a : Action) → s ≡ Done good → o ≡ Some a → result_of at s o ≡ at (action_id a)
+result_done : (at : Holdings) (s : JobStatus) (good : Bool) (o : Option Action) (a : Action) → s ≡ Done good → o ≡ Some a → result_of at s o ≡ at (action_id a)
 result_done at s good o a e h = ap (λ z. result_of at z o) e ∙ ap (result_of at (Done good)) h
 
 -- ---- the target's program
 
-module _ (edition : Edition) (W : List Write) (paths : HasFiles W) (target : List ℕ) (build : TargetBuild) (of : IsBuildPlanOf edition W target build.directories) (are : AreFates build.directories build.fates) (E : List Action) (sized : AllSized E)
+module _ (edition : Edition) (W : List Write) (paths : HasFiles W) (target : List ℕ) (build : TargetBuild) (of : IsBuildPlanOf edition W target build.directories) (are : AreDirectoryOutcomes build.directories build.fates) (E : List Action) (sized : AllSized E)
     (clear : NoClash (hashed_actions (E ++ actions_of edition build))) (cache : FinMap id_cmp Action) (stands : CacheStandsFor cache E) (seen : Seen) (opened : IsOpened (map (reached_by edition) build.directories) cache seen) where
   abbrev ds : List Directory
   ds = build.directories
 
-  abbrev fates : List Fate
+  abbrev fates : List DirectoryOutcome
   fates = build.fates
 
-  abbrev statuses : List Status
+  abbrev statuses : List JobStatus
   statuses = seen.state.standings.statuses
 
   abbrev actions : List (Option Action)
@@ -147,14 +147,14 @@ module _ (edition : Edition) (W : List Write) (paths : HasFiles W) (target : Lis
   abbrev rows : List (List ℕ)
   rows = map (λ (d : Directory). d.imports) ds
 
-  its_shown : (k : ℕ) (d : Directory) (f : Fate) → slice_get ds k ≡ Some d → slice_get fates k ≡ Some f → IsShown E statuses (map (λ j. 0 + j) d.imports) (end_of edition fates d f) (status_at statuses k) (action_at actions k)
+  its_shown : (k : ℕ) (d : Directory) (f : DirectoryOutcome) → slice_get ds k ≡ Some d → slice_get fates k ≡ Some f → IsEndOfJob E statuses (map (λ j. 0 + j) d.imports) (end_of edition fates d f) (status_at statuses k) (action_at actions k)
   its_shown = shown edition W paths target build of are E sized clear cache stands seen opened
 
   cache_holds : (id : List ℕ) → IsHeld E id (get seen.opening.cache id)
   cache_holds = cache_stands seen.opening.cache E (subst (λ (m : FinMap id_cmp Action). CacheStandsFor m E) (sym (ap (λ (o : Opening). o.cache) opened.opening)) stands)
 
   -- how a job stands that is done
-  record Shows (k : ℕ) (d : Directory) (f : Fate) : Type 0 where
+  record Shows (k : ℕ) (d : Directory) (f : DirectoryOutcome) : Type 0 where
     its : Action
     result : Compiled
     good : Bool
@@ -166,7 +166,7 @@ module _ (edition : Edition) (W : List Write) (paths : HasFiles W) (target : Lis
     compiles : Compiles its result
 
   -- the result of a job that has one
-  shows_by : (k : ℕ) (d : Directory) (f : Fate) (s : Status) (a : Option Action) → status_at statuses k ≡ s → action_at actions k ≡ a → IsShown E statuses (map (λ j. 0 + j) d.imports) (end_of edition fates d f) s a
+  shows_by : (k : ℕ) (d : Directory) (f : DirectoryOutcome) (s : JobStatus) (a : Option Action) → status_at statuses k ≡ s → action_at actions k ≡ a → IsEndOfJob E statuses (map (λ j. 0 + j) d.imports) (end_of edition fates d f) s a
       → (entry : Action) → result_of (held seen.opening seen.state) s a ≡ Some entry → Shows k d f
   shows_by k d f Waiting a same also h entry e = cc (e)
   shows_by k d f Stays a same also h entry e = cc (e)
@@ -177,12 +177,12 @@ module _ (edition : Edition) (W : List Write) (paths : HasFiles W) (target : Lis
       record { its = w.0; result = w.1; good = good; status = same; has = also ∙ w.2; end = w.3; among = w.4; goodness = w.5; compiles = w.6 }
 
   -- what is held of a job that is done is its action's
-  entry_is : (k : ℕ) (d : Directory) (f : Fate) (s : Shows k d f) (entry : Action) → result_at seen k ≡ Some entry → entry ≡ s.its
+  entry_is : (k : ℕ) (d : Directory) (f : DirectoryOutcome) (s : Shows k d f) (entry : Action) → result_at seen k ≡ Some entry → entry ≡ s.its
   entry_is k d f s entry e =
       let at : result_at seen k ≡ held seen.opening seen.state (action_id s.its) = result_done (held seen.opening seen.state) (status_at statuses k) s.good (action_at actions k) s.its s.status s.has in
       held_by E (actions_of edition build) clear sized s.its entry (get seen.opening.cache (action_id s.its)) (get seen.state.added (action_id s.its)) s.among (cache_holds (action_id s.its)) (sym at ∙ e)
 
-  shows : (k : ℕ) (d : Directory) (f : Fate) → slice_get ds k ≡ Some d → slice_get fates k ≡ Some f → (entry : Action) → result_at seen k ≡ Some entry → Shows k d f
+  shows : (k : ℕ) (d : Directory) (f : DirectoryOutcome) → slice_get ds k ≡ Some d → slice_get fates k ≡ Some f → (entry : Action) → result_at seen k ≡ Some entry → Shows k d f
   shows k d f at its entry e = shows_by k d f (status_at statuses k) (action_at actions k) refl refl (its_shown k d f at its) entry e
 
   -- ---- where all objects are there
@@ -214,7 +214,7 @@ module _ (edition : Edition) (W : List Write) (paths : HasFiles W) (target : Lis
         fate = f.at ∙ ap Some good.1;
         is = good.2;
         its = s.its;
-        came = subst (λ (x : Fate). action_in edition fates d x ≡ Some s.its) good.1 (sym (came_here edition fates d f.fate) ∙ ap came_of s.end);
+        came = subst (λ (x : DirectoryOutcome). action_in edition fates d x ≡ Some s.its) good.1 (sym (came_here edition fates d f.fate) ∙ ap end_result s.end);
         among = s.among;
       }
 
@@ -226,7 +226,7 @@ module _ (edition : Edition) (W : List Write) (paths : HasFiles W) (target : Lis
         (o.0, o.1, has_by k o.0 d.0 d.1 (have.each k o.0 o.1))
 
     fates_length : length fates ≡ length ds
-    fates_length = sym (zip_length (IsFate fates) ds fates are)
+    fates_length = sym (zip_length (IsDirectoryOutcome fates) ds fates are)
 
     all_good : All IsGood fates
     all_good = all_from IsGood fates (λ k f at.
@@ -234,7 +234,7 @@ module _ (edition : Edition) (W : List Write) (paths : HasFiles W) (target : Lis
         (h.typed, some_same f (Good h.typed) (sym at ∙ h.fate)))
 
     all_compiled : All (Contains E) (actions_of edition build)
-    all_compiled = kept_all (Contains E) (λ (row : Directory × Fate). action_in edition fates row.0 row.1) (zip ds fates) (λ k row a at e.
+    all_compiled = kept_all (Contains E) (λ (row : Directory × DirectoryOutcome). action_in edition fates row.0 row.1) (zip ds fates) (λ k row a at e.
         let two = of_zip ds fates k row at in
         let h = (has k (slice_get_within ds k row.0 two.0)).2 in
         let directory : row.0 ≡ h.directory = some_same row.0 h.directory (sym two.0 ∙ h.at) in
@@ -255,15 +255,15 @@ module _ (edition : Edition) (W : List Write) (paths : HasFiles W) (target : Lis
     rows_length : length rows ≡ length ds
     rows_length = length-map ds (λ (d : Directory). d.imports)
 
-    ordered : (ps : List Package) × ArePackages fates (package_order rows) ps × (in_order objects (package_order rows) ≡ map object_of ps)
+    ordered : (ps : List Package) × ArePackages fates (package_order rows) ps × (objects_in_order objects (package_order rows) ≡ map object_of ps)
     ordered = packages_by (package_order rows) (subst (λ n. All (λ k. k < n) (package_order rows)) rows_length (below rows))
 
-    pub some_image : (image : Image) → link_refusal (in_order objects (package_order rows)) ≡ None → image ≡ linked (in_order objects (package_order rows)) → IsImageOf edition E build (Some image)
+    pub some_image : (image : Image) → link_refusal (objects_in_order objects (package_order rows)) ≡ None → image ≡ linked (objects_in_order objects (package_order rows)) → IsImageOf edition E build (Some image)
     some_image image allowed is =
         let ps = ordered in
         (ps.0, record { good = all_good; compiled = all_compiled; in_order = ps.1; program = linked_program ps.0 (ap link_refusal (sym ps.2) ∙ allowed) }, (objects, package_order rows, ps.2, (allowed, is)))
 
-    pub refused_image : (e : LinkError) → link_refusal (in_order objects (package_order rows)) ≡ Some e → IsImageOf edition E build None
+    pub refused_image : (e : LinkError) → link_refusal (objects_in_order objects (package_order rows)) ≡ Some e → IsImageOf edition E build None
     refused_image e refused packages h =
         let ps = ordered in
         let same : ps.0 ≡ packages = one_packages fates fates (package_order rows) ps.0 packages (agree_refl fates (package_order rows)) ps.1 h.in_order in
@@ -274,10 +274,10 @@ module _ (edition : Edition) (W : List Write) (paths : HasFiles W) (target : Lis
   -- ---- where one isn't there
 
   module _ (packages : List Package) (program : IsHeldProgram edition E build packages) where
-    held_at : (k : ℕ) (d : Directory) (f : Fate) (a : Action) → slice_get ds k ≡ Some d → slice_get fates k ≡ Some f → action_in edition fates d f ≡ Some a → Contains E a
-    held_at k d f a at its e = kept_at (Contains E) (λ (row : Directory × Fate). action_in edition fates row.0 row.1) (zip ds fates) program.compiled k (d, f) a (zip_at ds fates k d f at its) e
+    held_at : (k : ℕ) (d : Directory) (f : DirectoryOutcome) (a : Action) → slice_get ds k ≡ Some d → slice_get fates k ≡ Some f → action_in edition fates d f ≡ Some a → Contains E a
+    held_at k d f a at its e = kept_at (Contains E) (λ (row : Directory × DirectoryOutcome). action_in edition fates row.0 row.1) (zip ds fates) program.compiled k (d, f) a (zip_at ds fates k d f at its) e
 
-    good_at : (k : ℕ) (f : Fate) → slice_get fates k ≡ Some f → (p : Package) × (f ≡ Good p)
+    good_at : (k : ℕ) (f : DirectoryOutcome) → slice_get fates k ≡ Some f → (p : Package) × (f ≡ Good p)
     good_at k f its = all_at IsGood fates program.good k f its
 
     ranks : (rank : ℕ → ℕ) × AreRanks ds rank
@@ -287,28 +287,28 @@ module _ (edition : Edition) (W : List Write) (paths : HasFiles W) (target : Lis
     Finished k = (d : Directory) → slice_get ds k ≡ Some d → status_at statuses k ≡ Done true
 
     -- a good directory's job, whose imports are done, is done
-    finished_by : (k : ℕ) (d : Directory) (f : Fate) (p : Package) → slice_get ds k ≡ Some d → slice_get fates k ≡ Some f → f ≡ Good p → IsFate fates d f → AllGood statuses (map (λ j. 0 + j) d.imports)
-        → (s : Status) (a : Option Action) → IsShown E statuses (map (λ j. 0 + j) d.imports) (end_of edition fates d f) s a → s ≡ Done true
+    finished_by : (k : ℕ) (d : Directory) (f : DirectoryOutcome) (p : Package) → slice_get ds k ≡ Some d → slice_get fates k ≡ Some f → f ≡ Good p → IsDirectoryOutcome fates d f → AllGood statuses (map (λ j. 0 + j) d.imports)
+        → (s : JobStatus) (a : Option Action) → IsEndOfJob E statuses (map (λ j. 0 + j) d.imports) (end_of edition fates d f) s a → s ≡ Done true
     finished_by k d f p at its good is imports Waiting a h = absurd (h.1 imports)
     finished_by k d f p at its good is imports Stays a h = absurd (none_blocked d f p good is h.1)
       where
-        none_blocked : (d : Directory) (f : Fate) (p : Package) → f ≡ Good p → IsFate fates d f → end_of edition fates d f ≡ ends.Blocked → ⊥
+        none_blocked : (d : Directory) (f : DirectoryOutcome) (p : Package) → f ≡ Good p → IsDirectoryOutcome fates d f → end_of edition fates d f ≡ ends.Blocked → ⊥
         none_blocked d f p good is e =
-            let there = subst (IsFate fates d) good is in
+            let there = subst (IsDirectoryOutcome fates d) good is in
             let came : end_of edition fates d (Good p) ≡ end_in (Some _) (Good p) = ap (λ (x : Option Action). end_in x (Good p)) (action_is edition fates d there.0 there.1 there.2) in
             let no = sym came ∙ ap (end_of edition fates d) (sym good) ∙ e in
             cc (no)
     finished_by k d f p at its good is imports (Running hand) a h = absurd h
     finished_by k d f p at its good is imports Ready a h =
-        let w = h.1 in absurd (w.4 (held_at k d f w.0 at its (sym (came_here edition fates d f) ∙ ap came_of w.3)))
+        let w = h.1 in absurd (w.4 (held_at k d f w.0 at its (sym (came_here edition fates d f) ∙ ap end_result w.3)))
     finished_by k d f p at its good is imports (Done on) a h =
         let w = h.1 in
         ap Done (w.5 ∙ good_of d f p good is w.0 w.1 w.3)
       where
-        good_of : (d : Directory) (f : Fate) (p : Package) → f ≡ Good p → IsFate fates d f → (x : Action) (r : Compiled) → end_of edition fates d f ≡ ends.Came x r → is_good_result r ≡ true
+        good_of : (d : Directory) (f : DirectoryOutcome) (p : Package) → f ≡ Good p → IsDirectoryOutcome fates d f → (x : Action) (r : Compiled) → end_of edition fates d f ≡ ends.Came x r → is_good_result r ≡ true
         good_of d f p good is x (compiled.Good s o) e = refl
         good_of d f p good is x (compiled.Faulty fault) e =
-            let there = subst (IsFate fates d) good is in
+            let there = subst (IsDirectoryOutcome fates d) good is in
             let came = ap (λ (y : Option Action). object_in (end_in y (Good p))) (action_is edition fates d there.0 there.1 there.2) in
             let no : Some (object_of p) ≡ None = sym came ∙ ap (λ g. object_in (end_of edition fates d g)) (sym good) ∙ ap object_in e in
             cc (no)
@@ -323,7 +323,7 @@ module _ (edition : Edition) (W : List Write) (paths : HasFiles W) (target : Lis
     finished_step k below d at =
         let f = fate_of fates ds fates are k d at in
         let good = good_at k f.fate f.at in
-        let is : IsFate fates d (Good good.0) = subst (IsFate fates d) good.1 f.is in
+        let is : IsDirectoryOutcome fates d (Good good.0) = subst (IsDirectoryOutcome fates d) good.1 f.is in
         finished_by k d f.fate good.0 at f.at good.1 f.is
         (imports_done d.imports (λ j c.
         let other = there ds j (plan_inside edition W target ds of d (at_member ds k d at) j c) in
@@ -333,7 +333,7 @@ module _ (edition : Edition) (W : List Write) (paths : HasFiles W) (target : Lis
     all_finished : (k : ℕ) → Finished k
     all_finished = numbered.ranked ranks.0 Finished finished_step
 
-    shows_if : (k : ℕ) (d : Directory) (f : Fate) (s : Status) (a : Option Action) → status_at statuses k ≡ s → action_at actions k ≡ a → IsShown E statuses (map (λ j. 0 + j) d.imports) (end_of edition fates d f) s a → s ≡ Done true → Shows k d f
+    shows_if : (k : ℕ) (d : Directory) (f : DirectoryOutcome) (s : JobStatus) (a : Option Action) → status_at statuses k ≡ s → action_at actions k ≡ a → IsEndOfJob E statuses (map (λ j. 0 + j) d.imports) (end_of edition fates d f) s a → s ≡ Done true → Shows k d f
     shows_if k d f Waiting a same also h e = cc (e)
     shows_if k d f Stays a same also h e = cc (e)
     shows_if k d f (Running hand) a same also h e = absurd h
@@ -351,7 +351,7 @@ module _ (edition : Edition) (W : List Write) (paths : HasFiles W) (target : Lis
         let no : false ≡ true = sym (ap is_good_result one) ∙ good in
         cc (no)
 
-    lacks_by : (k : ℕ) (d : Directory) (f : Fate) → status_at statuses k ≡ Done true → Shows k d f → LacksObjectAt seen k → ⊥
+    lacks_by : (k : ℕ) (d : Directory) (f : DirectoryOutcome) → status_at statuses k ≡ Done true → Shows k d f → LacksObjectAt seen k → ⊥
     lacks_by k d f done s lack =
         let good : is_good_result s.result ≡ true = sym s.goodness ∙ same_done s.good true (sym s.status ∙ done) in
         let at : result_at seen k ≡ held seen.opening seen.state (action_id s.its) = result_done (held seen.opening seen.state) (status_at statuses k) s.good (action_at actions k) s.its s.status s.has in

@@ -2,7 +2,7 @@
 use Rattle.std.specs.Prelude.{◌≡◌, ◌<◌, ◌+◌, ℕ, List, [], ◌∷◌, ◌++◌, length, replicate, take, drop}
 use Rattle.std.proofs.Common.{zero, suc, refl, sym, ap, ap₂, ◌∙◌, subst, arith, get_or, take-append-drop}
 use Rattle.std.proofs.lemmas.Simd.{splat_is_map}
-use Rattle.ws_replica.specs.Joins.{joined_from, IsJoinOf, settled}
+use Rattle.ws_replica.specs.Joins.{joined_from, IsJoinOf, all_joined}
 
 -- the join of a list with a member, and something for the empty one
 abbrev joined_or : {J : Type 0} → (J → J → J) → J → List J → J
@@ -37,7 +37,7 @@ module _ {J : Type 0} (f : J → J → J) (associative : (a b c : J) → f (f a 
       subst (λ (whole : List J). IsJoinOf f whole (f x y)) (ap₂ ◌++◌ first rest ∙ take-append-drop n all) (IsJoinOf-append front back x y some more left right)
 
 -- as many of what a list joins to as it has members
-pub settled-replicate : {J : Type 0} (f : J → J → J) (all : List J) (joined : J) → IsJoinOf f all joined → replicate (length all) joined ≡ settled f all
+pub settled-replicate : {J : Type 0} (f : J → J → J) (all : List J) (joined : J) → IsJoinOf f all joined → replicate (length all) joined ≡ all_joined f all
 settled-replicate f [] joined is = refl
 settled-replicate f (first ∷ rest) joined is =
     ap (replicate (length (first ∷ rest))) (is first rest refl) ∙ splat_is_map (first ∷ rest) (length (first ∷ rest)) (joined_from f first rest) refl

@@ -12,10 +12,10 @@ use Rattle.ws_reach.specs.Reach as reach
 use Rattle.ws_reach.specs.Reach.{Edge}
 use Rattle.ws_version.specs.Writes.{Write}
 use Rattle.ws_action.specs.Actions.{Action}
-use Rattle.ws_graph.specs.BuildPlan.{Directory, Imports, Reaches, IsBuildPlanOf, AreRanks, paths_of}
+use Rattle.ws_graph.specs.BuildPlan.{Directory, Imports, ReachesByImports, IsBuildPlanOf, AreRanks, paths_of}
 use Rattle.ws_graph.proofs.RankedPlan.{ranked_build_plan}
 use Rattle.ws_replica.specs.Programs.{IsGood, IsHeldProgram}
-use Rattle.ws_replica.specs.Reports.{Fate, Good, fate_at, ArePackages, IsFate, AreFates, TargetBuild, IsTargetBuild}
+use Rattle.ws_replica.specs.Reports.{DirectoryOutcome, Good, outcome_at, ArePackages, IsDirectoryOutcome, AreDirectoryOutcomes, TargetBuild, IsTargetBuild}
 use Rattle.ws_replica.proofs.HeldImages.{all_at, there}
 use Rattle.ws_replica.proofs.Numbered.{some_same, at_member, member_at}
 use Rattle.ws_replica.proofs.OneBuild.{fate_of}
@@ -43,7 +43,7 @@ module _ (edition : Edition) (W : List Write) (target : List ℕ) (ds : List Dir
   edge k p q at leads =
       let d = directory_at k p at in
       let among : Contains ds d.0 = at_member ds k d.0 d.1 in
-      let here : Reaches edition of.0 target p = (of.2.reached p).0 (at_member paths k p at) in
+      let here : ReachesByImports edition of.0 target p = (of.2.reached p).0 (at_member paths k p at) in
       let j = member_at paths q ((of.2.reached q).1 (further edition of.0 target p q here leads)) in
       let its : Imports edition of.0 d.0.path q = subst (λ x. Imports edition of.0 x q) (sym d.2) leads in
       (j.0, j.1, (d.0.imports, row_at k d.0 d.1, ((of.2.imports d.0 among).are j.0).1 (q, j.1, its)))
@@ -61,20 +61,20 @@ module _ (edition : Edition) (W : List Write) (target : List ℕ) (ds : List Dir
   reaches_all k at j lt =
       let d = there ds j (omega (arith, lt, length-map ds (λ (d : Directory). d.imports))) in
       let its : slice_get paths j ≡ Some d.0.path = slice_get-map (λ (d : Directory). d.path) ds j ∙ ap (option_map (λ (d : Directory). d.path)) d.1 in
-      let from : Reaches edition of.0 target d.0.path = (of.2.reached d.0.path).0 (at_member paths j d.0.path its) in
+      let from : ReachesByImports edition of.0 target d.0.path = (of.2.reached d.0.path).0 (at_member paths j d.0.path its) in
       walk from.0 k target d.0.path at from.1 j its
 
   target_at : (k : ℕ) × (slice_get paths k ≡ Some target)
   target_at = member_at paths target ((of.2.reached target).1 ([], refl))
 
-  module _ (fates : List Fate) (are : AreFates ds fates) (good : All IsGood fates) where
+  module _ (fates : List DirectoryOutcome) (are : AreDirectoryOutcomes ds fates) (good : All IsGood fates) where
     -- imports of good directories lie lower
     falls : (rank : ℕ → ℕ) → AreRanks ds rank → (p q : ℕ) → Edge rows p q → rank q < rank p
     falls rank ranks p q (row, at, c) =
         let d = there ds p (let lt = slice_get_within rows p row at in omega (arith, lt, length-map ds (λ (d : Directory). d.imports))) in
         let f = fate_of fates ds fates are p d.0 d.1 in
         let its = all_at IsGood fates good p f.fate f.at in
-        let is : IsFate fates d.0 (Good its.0) = subst (IsFate fates d.0) its.1 f.is in
+        let is : IsDirectoryOutcome fates d.0 (Good its.0) = subst (IsDirectoryOutcome fates d.0) its.1 f.is in
         let same : row ≡ d.0.imports = some_same row d.0.imports (sym at ∙ row_at p d.0 d.1) in
         ranks p q d.0 is.0 d.1 (is.2).sound (subst (λ r. Contains r q) same c)
 
@@ -86,7 +86,7 @@ module _ (edition : Edition) (W : List Write) (target : List ℕ) (ds : List Dir
         last rows target_at.0 (ranked rows ranks.0 (falls ranks.0 ranks.1) target_at.0 inside) (reaches_all target_at.0 target_at.1)
 
     -- the packages of numbers, the last of which is a number
-    last_of : (front : List ℕ) (k : ℕ) (packages : List Package) → ArePackages fates (front ++ k ∷ []) packages → (before : List Package) × (p : Package) × (packages ≡ before ++ p ∷ []) × (fate_at fates k ≡ Good p)
+    last_of : (front : List ℕ) (k : ℕ) (packages : List Package) → ArePackages fates (front ++ k ∷ []) packages → (before : List Package) × (p : Package) × (packages ≡ before ++ p ∷ []) × (outcome_at fates k ≡ Good p)
     last_of [] k [] h = absurd h
     last_of [] k (p ∷ []) h = ([], p, refl, h.0)
     last_of [] k (p ∷ q ∷ packages) h = absurd (h.1)

@@ -1,39 +1,39 @@
-pub mod BuiltTargets
-pub mod CheckedPackages
+mod BuiltTargets
+mod CheckedPackages
 pub mod Crossing
-pub mod EndFates
-pub mod Equal
-pub mod GoodPackages
-pub mod HeldIds
-pub mod HeldImages
-pub mod JoinedLists
-pub mod LastPackage
+mod EndFates
+mod Equal
+mod GoodPackages
+mod HeldIds
+mod HeldImages
+mod JoinedLists
+mod LastPackage
 pub mod Membership
 pub mod Numbered
 pub mod OneBuild
-pub mod OpenedBoards
-pub mod OpenedTargets
-pub mod Opening
-pub mod OrderedPackages
-pub mod OwnBuilds
-pub mod PartSteps
-pub mod Picked
-pub mod PlainPaths
-pub mod PlanMakes
-pub mod PlannedTargets
-pub mod Plans
-pub mod Removals
-pub mod SameCounts
-pub mod SameFiles
-pub mod Searched
-pub mod SettledReplicas
-pub mod SeveralPlans
-pub mod ShownPackages
+mod OpenedBoards
+mod OpenedTargets
+mod Opening
+mod OrderedPackages
+mod OwnBuilds
+mod PartSteps
+mod Picked
+mod PlainPaths
+mod PlanMakes
+mod PlannedTargets
+mod Plans
+mod Removals
+mod SameCounts
+mod SameFiles
+mod Searched
+mod SettledReplicas
+mod SeveralPlans
+mod ShownPackages
 pub mod SomeBuild
-pub mod SourceTexts
-pub mod Steps
-pub mod TargetParts
-pub mod TargetPieces
-pub mod TargetSteps
-pub mod WalkedParts
-pub mod WellTyped
+mod SourceTexts
+mod Steps
+mod TargetParts
+mod TargetPieces
+mod TargetSteps
+mod WalkedParts
+mod WellTyped

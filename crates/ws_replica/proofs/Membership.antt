@@ -8,12 +8,12 @@ use Rattle.ws_version.specs.Writes.{Held, Write, path_cmp, held_cmp}
 use Rattle.ws_action.specs.Actions.{Action}
 use Rattle.ws_cache.specs.Held.{id_cmp, IsHeld, CacheStandsFor}
 use Rattle.ws_replica.specs.Holdings.{Replica, ReplicaStandsFor}
-use Rattle.ws_version_vector.specs.Told.{IsWithin}
+use Rattle.ws_version_vector.specs.Taken.{IsSubset}
 
-pub more_known : {A : Type 0} (V W : List A) → IsWithin W V → SameMembers V (V ++ W)
+pub more_known : {A : Type 0} (V W : List A) → IsSubset W V → SameMembers V (V ++ W)
 more_known V W within a = (λ c. Contains-append_left V W a c, λ c. elim (Contains-append_cases V W a c) [ inl l ↦ l | inr r ↦ within a r ])
 
-pub all_known : {A : Type 0} (V W : List A) → IsWithin V W → SameMembers W (V ++ W)
+pub all_known : {A : Type 0} (V W : List A) → IsSubset V W → SameMembers W (V ++ W)
 all_known V W within a = (λ c. Contains-append_right V W a c, λ c. elim (Contains-append_cases V W a c) [ inl l ↦ within a l | inr r ↦ r ])
 
 same_at : (V W : List Write) (path : List ℕ) (kept : Option Held) → SameMembers V W → StandsAt held_cmp V path kept → StandsAt held_cmp W path kept

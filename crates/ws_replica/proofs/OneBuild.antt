@@ -17,10 +17,10 @@ use Rattle.ws_graph.specs.Plan.{Planned, NoFiles, Faulty, Sound, IsPlanOf}
 use Rattle.ws_graph.specs.BuildPlan.{Directory, IsBuildPlanOf, AreRanks}
 use Rattle.ws_graph.proofs.OneBuildPlan.{one_build_plan_of}
 use Rattle.ws_graph.proofs.RankedPlan.{ranked_build_plan}
-use Rattle.ws_replica.specs.Reports.{Fate, Stopped, Blocked, Wrong, Good, fate_at, ArePackages, IsReady, IsFate, AreFates, TargetBuild, IsTargetBuild}
+use Rattle.ws_replica.specs.Reports.{DirectoryOutcome, Stopped, Blocked, Wrong, Good, outcome_at, ArePackages, IsReady, IsDirectoryOutcome, AreDirectoryOutcomes, TargetBuild, IsTargetBuild}
 use Rattle.ws_replica.proofs.Numbered.{some_same, same_lists, ranked}
 
-package_in : Package → Fate → Package
+package_in : Package → DirectoryOutcome → Package
 package_in other (Good p) = p
 package_in other fate = other
 
@@ -35,19 +35,19 @@ files_in other planned = other
 -- ---- imports
 
 -- two lists of fates agree at all these numbers
-abbrev pub Agree : List Fate → List Fate → List ℕ → Type 0
+abbrev pub Agree : List DirectoryOutcome → List DirectoryOutcome → List ℕ → Type 0
 Agree f g [] = Unit {0}
-Agree f g (k ∷ ks) = (fate_at f k ≡ fate_at g k) × Agree f g ks
+Agree f g (k ∷ ks) = (outcome_at f k ≡ outcome_at g k) × Agree f g ks
 
-pub agree_at : (f g : List Fate) (ks : List ℕ) → ((k : ℕ) → Contains ks k → fate_at f k ≡ fate_at g k) → Agree f g ks
+pub agree_at : (f g : List DirectoryOutcome) (ks : List ℕ) → ((k : ℕ) → Contains ks k → outcome_at f k ≡ outcome_at g k) → Agree f g ks
 agree_at f g [] h = tt
 agree_at f g (k ∷ ks) h = (h k (at_head ks k k refl), agree_at f g ks (λ j c. h j (later k ks j c)))
 
-one_package : (f g : List Fate) (k : ℕ) (p q : Package) → fate_at f k ≡ fate_at g k → fate_at f k ≡ Good p → fate_at g k ≡ Good q → p ≡ q
+one_package : (f g : List DirectoryOutcome) (k : ℕ) (p q : Package) → outcome_at f k ≡ outcome_at g k → outcome_at f k ≡ Good p → outcome_at g k ≡ Good q → p ≡ q
 unfolding package_in
 one_package f g k p q same h i = ap (package_in p) (sym h ∙ same ∙ i)
 
-pub one_packages : (f g : List Fate) (ks : List ℕ) (ps qs : List Package) → Agree f g ks → ArePackages f ks ps → ArePackages g ks qs → ps ≡ qs
+pub one_packages : (f g : List DirectoryOutcome) (ks : List ℕ) (ps qs : List Package) → Agree f g ks → ArePackages f ks ps → ArePackages g ks qs → ps ≡ qs
 one_packages f g [] [] [] agree h k = refl
 one_packages f g [] [] (q ∷ qs) agree h k = absurd k
 one_packages f g [] (p ∷ ps) qs agree h k = absurd h
@@ -56,17 +56,17 @@ one_packages f g (k ∷ ks) (p ∷ ps) [] agree h i = absurd i
 one_packages f g (k ∷ ks) (p ∷ ps) (q ∷ qs) agree h i =
     ap (λ x. x ∷ ps) (one_package f g k p q agree.0 h.0 i.0) ∙ ap (λ xs. q ∷ xs) (one_packages f g ks ps qs agree.1 h.1 i.1)
 
-pub packages_move : (f g : List Fate) (ks : List ℕ) (ps : List Package) → Agree f g ks → ArePackages f ks ps → ArePackages g ks ps
+pub packages_move : (f g : List DirectoryOutcome) (ks : List ℕ) (ps : List Package) → Agree f g ks → ArePackages f ks ps → ArePackages g ks ps
 packages_move f g [] [] agree h = tt
 packages_move f g [] (p ∷ ps) agree h = absurd h
 packages_move f g (k ∷ ks) [] agree h = absurd h
 packages_move f g (k ∷ ks) (p ∷ ps) agree h = (sym agree.0 ∙ h.0, packages_move f g ks ps agree.1 h.1)
 
-pub agree_sym : (f g : List Fate) (ks : List ℕ) → Agree f g ks → Agree g f ks
+pub agree_sym : (f g : List DirectoryOutcome) (ks : List ℕ) → Agree f g ks → Agree g f ks
 agree_sym f g [] h = tt
 agree_sym f g (k ∷ ks) h = (sym h.0, agree_sym f g ks h.1)
 
-pub agree_refl : (f : List Fate) (ks : List ℕ) → Agree f f ks
+pub agree_refl : (f : List DirectoryOutcome) (ks : List ℕ) → Agree f f ks
 agree_refl f [] = tt
 agree_refl f (k ∷ ks) = (refl, agree_refl f ks)
 
@@ -75,7 +75,7 @@ agree_refl f (k ∷ ks) = (refl, agree_refl f ks)
 pub stopped_or_sound : (fault : Fault) (files : List Parsed) → Faulty fault ≡ Sound files → ⊥
 stopped_or_sound fault files e = cc
 
-module _ (d : Directory) (f g : List Fate) (agree : (files : List Parsed) → d.planned ≡ Sound files → Agree f g d.imports) where
+module _ (d : Directory) (f g : List DirectoryOutcome) (agree : (files : List Parsed) → d.planned ≡ Sound files → Agree f g d.imports) where
   one_imports : (files others : List Parsed) (ps qs : List Package) → IsReady f d files ps → IsReady g d others qs → (files ≡ others) × (ps ≡ qs)
   unfolding files_in
   one_imports files others ps qs h k = (ap (files_in files) (sym h.sound ∙ k.sound), one_packages f g d.imports ps qs (agree files h.sound) h.good k.good)
@@ -99,7 +99,7 @@ module _ (d : Directory) (f g : List Fate) (agree : (files : List Parsed) → d.
       subst (λ zs. AreGood d.path files (map importable_of zs) y) (sym same.1) (subst (λ zs. AreGood d.path zs (map importable_of qs) y) (sym same.0) its)
 
   -- where its imports have one fate, so has a directory
-  pub one_fate : (a b : Fate) → IsFate f d a → IsFate g d b → a ≡ b
+  pub one_fate : (a b : DirectoryOutcome) → IsDirectoryOutcome f d a → IsDirectoryOutcome g d b → a ≡ b
   unfolding fault_in
   one_fate (Stopped x) (Stopped y) h k = ap Stopped (ap (fault_in x) (sym h ∙ k))
   one_fate (Stopped x) Blocked h k = absurd (stopped_or_sound x k.0 (sym h ∙ k.1))
@@ -121,20 +121,20 @@ module _ (d : Directory) (f g : List Fate) (agree : (files : List Parsed) → d.
 -- ---- one list of fates
 
 -- what stands at the number of a directory
-pub record FateAt (all : List Fate) (d : Directory) (fates : List Fate) (k : ℕ) : Type 0 where
-  pub fate : Fate
+pub record FateAt (all : List DirectoryOutcome) (d : Directory) (fates : List DirectoryOutcome) (k : ℕ) : Type 0 where
+  pub fate : DirectoryOutcome
   pub at : slice_get fates k ≡ Some fate
-  pub is : IsFate all d fate
+  pub is : IsDirectoryOutcome all d fate
 
-pub fate_of : (all : List Fate) (ds : List Directory) (fates : List Fate) → AllZip (IsFate all) ds fates → (k : ℕ) (d : Directory) → slice_get ds k ≡ Some d → FateAt all d fates k
+pub fate_of : (all : List DirectoryOutcome) (ds : List Directory) (fates : List DirectoryOutcome) → AllZip (IsDirectoryOutcome all) ds fates → (k : ℕ) (d : Directory) → slice_get ds k ≡ Some d → FateAt all d fates k
 fate_of all [] fates h k d e = cc
 fate_of all (x ∷ ds) [] h k d e = absurd h
-fate_of all (x ∷ ds) (f ∷ fates) h zero d e = record { fate = f; at = refl; is = subst (λ (z : Directory). IsFate all z f) (some_same x d e) h.0 }
+fate_of all (x ∷ ds) (f ∷ fates) h zero d e = record { fate = f; at = refl; is = subst (λ (z : Directory). IsDirectoryOutcome all z f) (some_same x d e) h.0 }
 fate_of all (x ∷ ds) (f ∷ fates) h (suc k) d e =
     let rest = fate_of all ds fates h.1 k d e in
     record { fate = rest.fate; at = rest.at; is = rest.is }
 
-pub fate_past : (all : List Fate) (ds : List Directory) (fates : List Fate) → AllZip (IsFate all) ds fates → (k : ℕ) → slice_get ds k ≡ None → slice_get fates k ≡ None
+pub fate_past : (all : List DirectoryOutcome) (ds : List Directory) (fates : List DirectoryOutcome) → AllZip (IsDirectoryOutcome all) ds fates → (k : ℕ) → slice_get ds k ≡ None → slice_get fates k ≡ None
 fate_past all [] [] h k e = refl
 fate_past all [] (f ∷ fates) h k e = absurd h
 fate_past all (x ∷ ds) [] h k e = absurd h
@@ -142,23 +142,23 @@ fate_past all (x ∷ ds) (f ∷ fates) h zero e = cc
 fate_past all (x ∷ ds) (f ∷ fates) h (suc k) e = fate_past all ds fates h.1 k e
 
 -- the fate of a number is what stands there
-pub at_fate : (fates : List Fate) (k : ℕ) (a : Fate) → slice_get fates k ≡ Some a → fate_at fates k ≡ a
+pub at_fate : (fates : List DirectoryOutcome) (k : ℕ) (a : DirectoryOutcome) → slice_get fates k ≡ Some a → outcome_at fates k ≡ a
 at_fate [] k a at = cc
 at_fate (x ∷ xs) zero a at = some_same x a at
 at_fate (x ∷ xs) (suc k) a at = at_fate xs k a at
 
-pub past_fate : (fates : List Fate) (k : ℕ) → slice_get fates k ≡ None → fate_at fates k ≡ Blocked
+pub past_fate : (fates : List DirectoryOutcome) (k : ℕ) → slice_get fates k ≡ None → outcome_at fates k ≡ Blocked
 past_fate [] k at = refl
 past_fate (x ∷ xs) zero at = cc
 past_fate (x ∷ xs) (suc k) at = past_fate xs k at
 
-pub same_fate_at : (f g : List Fate) (k : ℕ) → slice_get f k ≡ slice_get g k → fate_at f k ≡ fate_at g k
-same_fate_at f g k e = elim (slice_get g k) as (λ o. slice_get g k ≡ o → fate_at f k ≡ fate_at g k) [
+pub same_fate_at : (f g : List DirectoryOutcome) (k : ℕ) → slice_get f k ≡ slice_get g k → outcome_at f k ≡ outcome_at g k
+same_fate_at f g k e = elim (slice_get g k) as (λ o. slice_get g k ≡ o → outcome_at f k ≡ outcome_at g k) [
   | None ↦ λ at. past_fate f k (e ∙ at) ∙ sym (past_fate g k at)
   | Some a ↦ λ at. at_fate f k a (e ∙ at) ∙ sym (at_fate g k a at)
 ] refl
 
-module _ (ds : List Directory) (rank : ℕ → ℕ) (ranks : AreRanks ds rank) (f g : List Fate) (are : AreFates ds f) (also : AreFates ds g) where
+module _ (ds : List Directory) (rank : ℕ → ℕ) (ranks : AreRanks ds rank) (f g : List DirectoryOutcome) (are : AreDirectoryOutcomes ds f) (also : AreDirectoryOutcomes ds g) where
   one_at : (k : ℕ) → ((j : ℕ) → rank j < rank k → slice_get f j ≡ slice_get g j) → slice_get f k ≡ slice_get g k
   one_at k below = elim (slice_get ds k) as (λ o. slice_get ds k ≡ o → slice_get f k ≡ slice_get g k) [
     | None ↦ λ past. fate_past f ds f are k past ∙ sym (fate_past g ds g also k past)
@@ -188,6 +188,6 @@ one_build edition V W target (Some a) None same g h = absurd (files_or_none edit
 one_build edition V W target (Some a) (Some b) same g h =
     let ds : a.directories ≡ b.directories = one_build_plan_of edition V W target a.directories b.directories same g.0 h.0 in
     let ranks = ranked_build_plan edition W target b.directories h.0 in
-    let fates : a.fates ≡ b.fates = one_fates b.directories ranks.0 ranks.1 a.fates b.fates (subst (λ zs. AreFates zs a.fates) ds g.1) h.1 in
+    let fates : a.fates ≡ b.fates = one_fates b.directories ranks.0 ranks.1 a.fates b.fates (subst (λ zs. AreDirectoryOutcomes zs a.fates) ds g.1) h.1 in
     let whole : a ≡ b = λ i. record { directories = ds i; fates = fates i } in
     ap Some whole

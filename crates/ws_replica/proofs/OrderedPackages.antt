@@ -8,7 +8,7 @@ use Rattle.std.proofs.lemmas.Bool.{cases_lt}
 use Rattle.go_typed.specs.Trees.{Package}
 use Rattle.ws_version.specs.Writes.{path_cmp}
 use Rattle.ws_action.proofs.Members.{none_in_empty, head_or_later, at_head, later}
-use Rattle.ws_replica.specs.Reports.{Fate, Good, fate_at, ArePackages}
+use Rattle.ws_replica.specs.Reports.{DirectoryOutcome, Good, outcome_at, ArePackages}
 use Rattle.ws_replica.proofs.Numbered.{some_same}
 use Rattle.ws_replica.proofs.PlanMakes.{sorted_at}
 
@@ -69,22 +69,22 @@ cut_at (j ∷ ks) (suc place) k at = cut_later j ks place k (cut_at ks place k a
 -- ---- the packages of numbers
 
 -- the number whose package stands at a place
-pub number_of : (fates : List Fate) (ks : List ℕ) (ps : List Package) → ArePackages fates ks ps → (place : ℕ) (p : Package) → slice_get ps place ≡ Some p → (k : ℕ) × (slice_get ks place ≡ Some k) × (fate_at fates k ≡ Good p)
+pub number_of : (fates : List DirectoryOutcome) (ks : List ℕ) (ps : List Package) → ArePackages fates ks ps → (place : ℕ) (p : Package) → slice_get ps place ≡ Some p → (k : ℕ) × (slice_get ks place ≡ Some k) × (outcome_at fates k ≡ Good p)
 number_of fates [] [] h place p at = cc (at)
 number_of fates [] (q ∷ ps) h place p at = absurd h
 number_of fates (k ∷ ks) [] h place p at = absurd h
-number_of fates (k ∷ ks) (q ∷ ps) h zero p at = (k, refl, subst (λ (x : Package). fate_at fates k ≡ Good x) (some_same q p at) h.0)
+number_of fates (k ∷ ks) (q ∷ ps) h zero p at = (k, refl, subst (λ (x : Package). outcome_at fates k ≡ Good x) (some_same q p at) h.0)
 number_of fates (k ∷ ks) (q ∷ ps) h (suc place) p at = number_of fates ks ps h.1 place p at
 
 -- the package of the number at a place
-pub package_of : (fates : List Fate) (ks : List ℕ) (ps : List Package) → ArePackages fates ks ps → (place k : ℕ) → slice_get ks place ≡ Some k → (p : Package) × (slice_get ps place ≡ Some p) × (fate_at fates k ≡ Good p)
+pub package_of : (fates : List DirectoryOutcome) (ks : List ℕ) (ps : List Package) → ArePackages fates ks ps → (place k : ℕ) → slice_get ks place ≡ Some k → (p : Package) × (slice_get ps place ≡ Some p) × (outcome_at fates k ≡ Good p)
 package_of fates [] ps h place k at = cc (at)
 package_of fates (j ∷ ks) [] h place k at = absurd h
-package_of fates (j ∷ ks) (p ∷ ps) h zero k at = (p, refl, subst (λ n. fate_at fates n ≡ Good p) (some_same j k at) h.0)
+package_of fates (j ∷ ks) (p ∷ ps) h zero k at = (p, refl, subst (λ n. outcome_at fates n ≡ Good p) (some_same j k at) h.0)
 package_of fates (j ∷ ks) (p ∷ ps) h (suc place) k at = package_of fates ks ps h.1 place k at
 
 -- one fate has one package
-pub one_good : (fates : List Fate) (k : ℕ) (p q : Package) → fate_at fates k ≡ Good p → fate_at fates k ≡ Good q → p ≡ q
+pub one_good : (fates : List DirectoryOutcome) (k : ℕ) (p q : Package) → outcome_at fates k ≡ Good p → outcome_at fates k ≡ Good q → p ≡ q
 one_good fates k p q h i =
     let same : Good p ≡ Good q = sym h ∙ i in
     cc (same)

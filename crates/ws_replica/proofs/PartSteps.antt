@@ -8,12 +8,12 @@ use Rattle.std.proofs.lemmas.List.Elements.{filter_map-append}
 use Rattle.ws_report.specs.declared.Report.{Report}
 use Rattle.ws_reach.specs.Reach.{rows_of}
 use Rattle.ws_action.specs.Actions.{Action}
-use Rattle.ws_report.specs.Reports.{Verdict, row, rows}
+use Rattle.ws_report.specs.Reports.{DirectoryVerdict, row, verdict_rows}
 use Rattle.ws_report.specs.declared.Verdict.{Verdict as RustVerdict}
-use Rattle.ws_replica.specs.Jobs.{Place, Reached, reached_of, all_reached_of, AllTold}
-use Rattle.ws_replica.specs.Jobs.{rows_of as report_rows}
+use Rattle.ws_replica.specs.Jobs.{Place, ReachedDirectory, reached_of, all_reached_of, AllAreVerdicts}
+use Rattle.ws_replica.specs.Jobs.{report_rows as report_rows}
 use Rattle.ws_replica.specs.declared.building.Target.{Target}
-use Rattle.ws_replica.specs.Parts.{part_of, reached_rows, all_rows_of, IsToldPart}
+use Rattle.ws_replica.specs.Parts.{target_part, reached_rows, all_rows_of, IsReportPart}
 use Rattle.ws_replica.specs.declared.parts.Part.{Part as RustPart}
 use Rattle.ws_replica.specs.declared.reached.Reached.{Reached as RustReached}
 use Rattle.ws_replica.proofs.Steps.{mapped_next}
@@ -38,15 +38,15 @@ past_all [] k le = refl
 past_all (x ∷ xs) zero le = absurd (omega (arith, le))
 past_all (x ∷ xs) (suc k) le = past_all xs k (omega (arith, le))
 
-pub rows_past : (told : List (String Global × RustVerdict)) (k : ℕ) → length told ≤ k → slice_get (rows told) k ≡ None
-rows_past told k le = past_all (rows told) k (omega (arith, le, length-map told row))
+pub rows_past : (told : List (String Global × RustVerdict)) (k : ℕ) → length told ≤ k → slice_get (verdict_rows told) k ≡ None
+rows_past told k le = past_all (verdict_rows told) k (omega (arith, le, length-map told row))
 
 -- one more report
-pub reports_next : (told : List Report) (parts : List RustPart) (i : ℕ) (d : RustPart) (done new : List Report) (x : Report) → i < length parts → d ≡ get_or parts i d → new ≡ done ++ x ∷ [] → IsToldPart told (part_of d) x
-    → AllZip (IsToldPart told) (map part_of (take i parts)) done → AllZip (IsToldPart told) (map part_of (take (i + 1) parts)) new
+pub reports_next : (told : List Report) (parts : List RustPart) (i : ℕ) (d : RustPart) (done new : List Report) (x : Report) → i < length parts → d ≡ get_or parts i d → new ≡ done ++ x ∷ [] → IsReportPart told (target_part d) x
+    → AllZip (IsReportPart told) (map target_part (take i parts)) done → AllZip (IsReportPart told) (map target_part (take (i + 1) parts)) new
 reports_next told parts i d done new x within e push is h =
-    subst (λ ps. AllZip (IsToldPart told) ps new) (sym (mapped_next part_of parts i d within e))
-    (subst (AllZip (IsToldPart told) (map part_of (take i parts) ++ part_of d ∷ [])) (sym push) (zip_push (IsToldPart told) (map part_of (take i parts)) done (part_of d) x h is))
+    subst (λ ps. AllZip (IsReportPart told) ps new) (sym (mapped_next target_part parts i d within e))
+    (subst (AllZip (IsReportPart told) (map target_part (take i parts) ++ target_part d ∷ [])) (sym push) (zip_push (IsReportPart told) (map target_part (take i parts)) done (target_part d) x h is))
 
 -- one more replica's rows
 pub rows_next : (all : List (Vec RustReached Global)) (i : ℕ) (d : Vec RustReached Global) (done new : List (Vec (Vec ℕ Global) Global)) (x : Vec (Vec ℕ Global) Global) → i < length all → d ≡ get_or all i d → new ≡ done ++ x ∷ [] → rows_of x.items ≡ reached_rows (map reached_of d.items)
@@ -57,17 +57,17 @@ rows_next all i d done new x within e push is h =
 
 -- ---- reports
 
-told_length : (result : ℕ → Option Action) (n : ℕ) (ps : List (List Place)) (rows : List (List (List ℕ × Verdict))) → AllTold result n ps rows → length rows ≡ length ps
+told_length : (result : ℕ → Option Action) (n : ℕ) (ps : List (List Place)) (rows : List (List (List ℕ × DirectoryVerdict))) → AllAreVerdicts result n ps rows → length rows ≡ length ps
 told_length result n [] [] h = refl
 told_length result n [] (r ∷ rows) h = absurd h
 told_length result n (p ∷ ps) [] h = absurd h
 told_length result n (p ∷ ps) (r ∷ rows) h = ap suc (told_length result (n + length p) ps rows h.1)
 
 -- there are as many reports as replicas
-pub run_length : (result : ℕ → Option Action) (all : List (Vec RustReached Global)) (told : List Report) → AllTold result 0 (map (λ reached. map (λ (r : Reached). r.place) reached) (all_reached_of all)) (map report_rows told) → length all ≡ length told
+pub run_length : (result : ℕ → Option Action) (all : List (Vec RustReached Global)) (told : List Report) → AllAreVerdicts result 0 (map (λ reached. map (λ (r : ReachedDirectory). r.place) reached) (all_reached_of all)) (map report_rows told) → length all ≡ length told
 run_length result all told h =
-    sym (length-map all (λ (v : Vec RustReached Global). map reached_of v.items)) ∙ sym (length-map (all_reached_of all) (λ (reached : List Reached). map (λ (r : Reached). r.place) reached))
-    ∙ sym (told_length result 0 (map (λ reached. map (λ (r : Reached). r.place) reached) (all_reached_of all)) (map report_rows told) h) ∙ length-map told report_rows
+    sym (length-map all (λ (v : Vec RustReached Global). map reached_of v.items)) ∙ sym (length-map (all_reached_of all) (λ (reached : List ReachedDirectory). map (λ (r : ReachedDirectory). r.place) reached))
+    ∙ sym (told_length result 0 (map (λ reached. map (λ (r : ReachedDirectory). r.place) reached) (all_reached_of all)) (map report_rows told) h) ∙ length-map told report_rows
 
 pub named_within : (targets : List Target) (m n : ℕ) → m ≡ n → All (λ t. t.replica < m) targets → All (λ t. t.replica < n) targets
 named_within targets m n e h = subst (λ k. All (λ t. t.replica < k) targets) e h

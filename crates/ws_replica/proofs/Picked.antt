@@ -9,7 +9,7 @@ use Rattle.go_text.specs.declared.edition.Edition.{Edition}
 use Rattle.ws_version.specs.Writes.{path_cmp}
 use Rattle.ws_version.proofs.Writes.{path_cmp_total}
 use Rattle.ws_action.proofs.Members.{none_in_empty, head_or_later, at_head, later}
-use Rattle.ws_graph.specs.BuildPlan.{Sources, Reaches, Imports, Directory, paths_of, IsBuildPlan, IsJointPlan}
+use Rattle.ws_graph.specs.BuildPlan.{Sources, ReachesByImports, Imports, Directory, paths_of, IsBuildPlan, IsJointPlan}
 use Rattle.ws_graph.proofs.Sorted.{one_sorted}
 use Rattle.ws_graph.proofs.Wholes.{IsWhole}
 use Rattle.ws_replica.proofs.Numbered.{some_same, member_at}
@@ -100,7 +100,7 @@ module _ (edition : Edition) (sources : Sources) where
 -- these are the numbers of what the target reaches
 pub record IsPart (edition : Edition) (sources : Sources) (paths : List Path) (target : Path) (numbers : List ℕ) : Type 0 where
   pub ascending : IsStrictlyIncreasing numbers
-  pub are : (k : ℕ) → (Contains numbers k → (q : Path) × (slice_get paths k ≡ Some q) × Reaches edition sources target q) × ((q : Path) × (slice_get paths k ≡ Some q) × Reaches edition sources target q → Contains numbers k)
+  pub are : (k : ℕ) → (Contains numbers k → (q : Path) × (slice_get paths k ≡ Some q) × ReachesByImports edition sources target q) × ((q : Path) × (slice_get paths k ≡ Some q) × ReachesByImports edition sources target q → Contains numbers k)
 
 -- a part's paths are those of the target's own plan
 pub own_paths : (edition : Edition) (sources : Sources) (targets : List Path) (us ds : List Directory) (target : Path) → IsJointPlan edition sources targets us → Contains targets target → IsBuildPlan edition sources target ds → (ns : List ℕ) → IsPart edition sources (paths_of us) target ns → map (at_path (paths_of us)) ns ≡ paths_of ds
@@ -111,7 +111,7 @@ own_paths edition sources targets us ds target joint among plan ns part =
     let m = from_map (at_path (paths_of us)) ns q c in
     let there = (part.are m.0).0 m.1 in
     let is : there.0 ≡ q = sym (at_some (paths_of us) m.0 there.0 there.1) ∙ m.2 in
-    (plan.reached q).1 (subst (Reaches edition sources target) is there.2)))
+    (plan.reached q).1 (subst (ReachesByImports edition sources target) is there.2)))
     (λ q c. (
     let way = (plan.reached q).0 c in
     let n = member_at (paths_of us) q ((joint.reached q).1 (target, among, way)) in

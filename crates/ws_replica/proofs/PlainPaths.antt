@@ -5,7 +5,7 @@ use Rattle.std.specs.List.{list_all, slice_split, onto_first}
 use Rattle.std.proofs.lemmas.Bool.{cases_Bool, and_parts, and_from, eqb-true}
 use Rattle.std.proofs.lemmas.List.Splits.{slice_split-cons_yes, slice_split-cons_no}
 use Rattle.go_package_laws.specs.Packages.{is_plain}
-use Rattle.ws_path.specs.Paths.{is_slash, elements, directory, file_name, is_element_byte, is_only_dots, is_element, has_two_elements, has_elements, is_go_file, is_reserved, is_path}
+use Rattle.ws_path.specs.Paths.{is_slash, path_elements, directory, file_name, is_element_byte, is_only_dots, is_element, has_two_elements, has_elements, is_go_file, is_reserved, is_path}
 use Rattle.ws_path.proofs.Cuts.{two_parts}
 
 abbrev is_plain_byte : ℕ → Bool
@@ -76,4 +76,4 @@ directory_plain path is =
     let two = and_parts (has_two_elements path) (has_elements path && named) parts in
     let all : has_elements path ≡ true = (and_parts (has_elements path) named two.1).0 in
     let cut : path ≡ directory path ++ 47 ∷ file_name path = two_parts 47 path two.0 in
-    front_plain (directory path) (47 ∷ file_name path) (subst (λ (xs : List ℕ). is_plain xs ≡ true) cut (whole_plain path (all_bytes (elements path) all)))
+    front_plain (directory path) (47 ∷ file_name path) (subst (λ (xs : List ℕ). is_plain xs ≡ true) cut (whole_plain path (all_bytes (path_elements path) all)))

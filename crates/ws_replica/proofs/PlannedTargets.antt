@@ -24,8 +24,8 @@ use Rattle.ws_reach.specs.Reach.{Edge, Reaches, EdgesStayWithin, rows_of}
 use Rattle.ws_reach.proofs.Reached.{get_contains}
 use Rattle.ws_replica.specs.Builds.{took_at, target_of, LacksPackage}
 use Rattle.ws_replica.specs.Holdings.{Replica, Took, AllStandFor}
-use Rattle.ws_replica.specs.Jobs.{Reached}
-use Rattle.ws_replica.specs.Parts.{part_of, reached_paths, reached_rows, all_rows_of, ArePart, IsPartOf, AllPartsWithin}
+use Rattle.ws_replica.specs.Jobs.{ReachedDirectory}
+use Rattle.ws_replica.specs.Parts.{target_part, reached_paths, reached_rows, all_rows_of, ArePart, IsPartOf, AllPartsWithin}
 use Rattle.ws_replica.specs.Targets.{directories_at, IsReachedBy, IsReached, AreReachedOf, AreInOrder}
 use Rattle.ws_replica.specs.declared.building.Target.{Target}
 use Rattle.ws_replica.specs.declared.parts.Part.{Part as RustPart}
@@ -70,7 +70,7 @@ at_push P (z ∷ xs) x h p zero y e = h 0 y e
 at_push P (z ∷ xs) x h p (suc k) y e = at_push (λ j. P (suc j)) xs x (λ j w at. h (suc j) w at) p k y e
 
 -- one more replica's
-pub planned_next : (edition : Edition) (replicas : List Replica) (targets : List Pair) (done new : List (List Reached)) (x : List Reached) → new ≡ done ++ x ∷ [] → IsReached edition replicas targets (length done) x → AreReachedOf edition replicas targets done → AreReachedOf edition replicas targets new
+pub planned_next : (edition : Edition) (replicas : List Replica) (targets : List Pair) (done new : List (List ReachedDirectory)) (x : List ReachedDirectory) → new ≡ done ++ x ∷ [] → IsReached edition replicas targets (length done) x → AreReachedOf edition replicas targets done → AreReachedOf edition replicas targets new
 planned_next edition replicas targets done new x push is h k rs at =
     at_push (IsReached edition replicas targets) done x h is k rs (subst (λ zs. slice_get zs k ≡ Some rs) push at)
 
@@ -82,7 +82,7 @@ lacks_at edition replicas targets k r ds at same none took stand =
     (k, lacks.0, from_directories k targets lacks.0 (subst (λ xs. Contains xs lacks.0) same lacks.1), lacks.2)
 
 -- what was reached is in order
-pub in_order : (edition : Edition) (registers : Contents) (targets : List (List ℕ)) (reached : List Reached) → IsReachedBy edition registers targets reached → AreInOrder reached
+pub in_order : (edition : Edition) (registers : Contents) (targets : List (List ℕ)) (reached : List ReachedDirectory) → IsReachedBy edition registers targets reached → AreInOrder reached
 in_order edition registers targets reached h = record {
   ascending = subst (IsStrictlySortedBy path_cmp) (sym paths) joint.2.ascending;
   within = subst EdgesStayWithin (sym rows) (λ p q e.
@@ -128,24 +128,24 @@ part_none paths rows target numbers none empty = record {
 }
 
 -- a path's number is a row's
-pub rows_length : (reached : List Reached) (rows : List (Vec ℕ Global)) (k : ℕ) (path : List ℕ) → rows_of rows ≡ reached_rows reached → slice_get (reached_paths reached) k ≡ Some path → k < length rows
+pub rows_length : (reached : List ReachedDirectory) (rows : List (Vec ℕ Global)) (k : ℕ) (path : List ℕ) → rows_of rows ≡ reached_rows reached → slice_get (reached_paths reached) k ≡ Some path → k < length rows
 rows_length reached rows k path same at =
     let lt = slice_get_within (reached_paths reached) k path at in
-    let long : length rows ≡ length reached = sym (length-map rows (λ (v : Vec ℕ Global). v.items)) ∙ ap length same ∙ length-map reached (λ (r : Reached). r.imports) in
-    omega (arith, lt, long, length-map reached (λ (r : Reached). r.place.path))
+    let long : length rows ≡ length reached = sym (length-map rows (λ (v : Vec ℕ Global). v.items)) ∙ ap length same ∙ length-map reached (λ (r : ReachedDirectory). r.imports) in
+    omega (arith, lt, long, length-map reached (λ (r : ReachedDirectory). r.place.path))
 
 -- the rows at a replica's number are those of what is reached from it
-pub rows_found : (rows shown : List (Vec (Vec ℕ Global) Global)) (all : List (List Reached)) (k : ℕ) (found : List (Vec ℕ Global)) (reached : List Reached) → shown ≡ rows → all_rows_of rows ≡ map reached_rows all → slice_get (all_rows_of shown) k ≡ Some (rows_of found) → slice_get all k ≡ Some reached → rows_of found ≡ reached_rows reached
+pub rows_found : (rows shown : List (Vec (Vec ℕ Global) Global)) (all : List (List ReachedDirectory)) (k : ℕ) (found : List (Vec ℕ Global)) (reached : List ReachedDirectory) → shown ≡ rows → all_rows_of rows ≡ map reached_rows all → slice_get (all_rows_of shown) k ≡ Some (rows_of found) → slice_get all k ≡ Some reached → rows_of found ≡ reached_rows reached
 rows_found rows shown all k found reached same are at there =
     some_same (rows_of found) (reached_rows reached) (sym at ∙ ap (λ rs. slice_get (all_rows_of rs) k) same ∙ ap (λ rs. slice_get rs k) are ∙ map_right reached_rows all k reached there)
 
 -- one more target's part
-pub parts_next : (all : List (List Reached)) (targets : List Target) (i : ℕ) (done new : List RustPart) (x : RustPart) (reached : List Reached) → i < length targets → new ≡ done ++ x ∷ [] → x.replica ≡ (target_at targets i).replica → slice_get all (target_at targets i).replica ≡ Some reached
-    → ArePart (reached_paths reached) (reached_rows reached) (target_at targets i).directory.now x.numbers.items → AllZip (IsPartOf all) (map target_of (take i targets)) (map part_of done) → AllZip (IsPartOf all) (map target_of (take (i + 1) targets)) (map part_of new)
+pub parts_next : (all : List (List ReachedDirectory)) (targets : List Target) (i : ℕ) (done new : List RustPart) (x : RustPart) (reached : List ReachedDirectory) → i < length targets → new ≡ done ++ x ∷ [] → x.replica ≡ (target_at targets i).replica → slice_get all (target_at targets i).replica ≡ Some reached
+    → ArePart (reached_paths reached) (reached_rows reached) (target_at targets i).directory.now x.numbers.items → AllZip (IsPartOf all) (map target_of (take i targets)) (map target_part done) → AllZip (IsPartOf all) (map target_of (take (i + 1) targets)) (map target_part new)
 parts_next all targets i done new x reached within push replica at are h =
-    subst (λ ts. AllZip (IsPartOf all) ts (map part_of new)) (sym (targets_next targets i within))
-    (subst (AllZip (IsPartOf all) (map target_of (take i targets) ++ target_of (target_at targets i) ∷ [])) (sym (ap (map part_of) push ∙ map-append part_of done (x ∷ [])))
-    (zip_push (IsPartOf all) (map target_of (take i targets)) (map part_of done) (target_of (target_at targets i)) (part_of x) h (record { reached = reached; at = at; replica = replica; are = are })))
+    subst (λ ts. AllZip (IsPartOf all) ts (map target_part new)) (sym (targets_next targets i within))
+    (subst (AllZip (IsPartOf all) (map target_of (take i targets) ++ target_of (target_at targets i) ∷ [])) (sym (ap (map target_part) push ∙ map-append target_part done (x ∷ [])))
+    (zip_push (IsPartOf all) (map target_of (take i targets)) (map target_part done) (target_of (target_at targets i)) (target_part x) h (record { reached = reached; at = at; replica = replica; are = are })))
 
 pub within_next : (count : ℕ) (done new : List RustPart) (x : RustPart) → new ≡ done ++ x ∷ [] → x.replica < count → AllPartsWithin count done → AllPartsWithin count new
 within_next count done new x push lt h p c = elim (Contains-push_cases done x p (subst (λ (ps : List RustPart). Contains ps p) push c)) [

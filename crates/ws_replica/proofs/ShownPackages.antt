@@ -17,7 +17,7 @@ use Rattle.go_package_laws.proofs.Shown.{checked_shown}
 use Rattle.ws_version.specs.Writes.{Write}
 use Rattle.ws_path.specs.Paths.{directory}
 use Rattle.ws_register.specs.Sources.{IsSources, HasFiles}
-use Rattle.ws_action.specs.Actions.{source_of, action_of, HaveEdition}
+use Rattle.ws_action.specs.Actions.{source_with_name, action_of, HaveEdition}
 use Rattle.ws_action.proofs.Imports.{same_imports, parsed_again}
 use Rattle.ws_action.proofs.Members.{at_head}
 use Rattle.ws_cache.specs.Compiles.{AreGood}
@@ -26,7 +26,7 @@ use Rattle.ws_graph.specs.Packages.{package_files}
 use Rattle.ws_graph.specs.Plan.{IsSound}
 use Rattle.ws_graph.specs.BuildPlan.{Directory}
 use Rattle.ws_graph.proofs.RankedPlan.{ranked_build_plan}
-use Rattle.ws_replica.specs.Reports.{Fate, Good, fate_at, ArePackages, IsReady, TargetBuild, IsTargetBuild}
+use Rattle.ws_replica.specs.Reports.{DirectoryOutcome, Good, outcome_at, ArePackages, IsReady, TargetBuild, IsTargetBuild}
 use Rattle.ws_replica.proofs.Numbered.{at_member, member_at}
 use Rattle.ws_replica.proofs.OneBuild.{at_fate, fate_of, one_fate, agree_refl}
 use Rattle.ws_replica.proofs.OrderedPackages.{package_of, one_good}
@@ -41,8 +41,8 @@ Pair = List ℕ × List ℕ
 -- the directory of sound files is plain
 sound_plain : (edition : Edition) (W : List Write) → HasFiles W → (sources : List Pair) → IsSources W sources → (path : List ℕ) (files : List Parsed) → IsSound edition (package_files path sources) files → is_plain path ≡ true
 sound_plain edition W has sources of path files its =
-    let first : Contains (package_files path sources) (source_of its.first) = subst (λ (xs : List Pair). Contains xs (source_of its.first)) (ap (map source_of) (sym its.is) ∙ its.parses.sources) (at_head {A = Pair} (map source_of its.rest) (source_of its.first) (source_of its.first) refl) in
-    let s = files_from path sources (source_of its.first) first in
+    let first : Contains (package_files path sources) (source_with_name its.first) = subst (λ (xs : List Pair). Contains xs (source_with_name its.first)) (ap (map source_with_name) (sym its.is) ∙ its.parses.sources) (at_head {A = Pair} (map source_with_name its.rest) (source_with_name its.first) (source_with_name its.first) refl) in
+    let s = files_from path sources (source_with_name its.first) first in
     subst (λ (x : List ℕ). is_plain x ≡ true) s.2 (directory_plain (s.0).0 ((sources_good W has sources of).1 s.0 s.1))
 
 every : (ps : List Package) → ((k : ℕ) (p : Package) → slice_get ps k ≡ Some p → is_plain p.path ≡ true) → HavePlainPaths ps
@@ -53,7 +53,7 @@ module _ (edition : Edition) (W : List Write) (has : HasFiles W) (target : List 
   abbrev ds : List Directory
   ds = build.directories
 
-  abbrev fates : List Fate
+  abbrev fates : List DirectoryOutcome
   fates = build.fates
 
   abbrev packages : List Package
@@ -74,7 +74,7 @@ module _ (edition : Edition) (W : List Write) (has : HasFiles W) (target : List 
   pub packages_shown : (p : Package) → Contains fates (Good p) → All IsShown (values_of (exports_of p))
   packages_shown p c =
       let k = member_at fates (Good p) c in
-      let good : fate_at fates k.0 ≡ Good p = at_fate fates k.0 (Good p) k.1 in
+      let good : outcome_at fates k.0 ≡ Good p = at_fate fates k.0 (Good p) k.1 in
       let rank = ranked_build_plan edition W target ds are.0 in
       let place = member_at (ordered ds fates are.1) k.0 (all_ordered ds fates are.1 rank.0 rank.1 k.0 p good) in
       let q = package_of fates (ordered ds fates are.1) packages order place.0 k.0 place.1 in
@@ -93,4 +93,4 @@ module _ (edition : Edition) (W : List Write) (has : HasFiles W) (target : List 
       let k = member_at ds d among in
       let here = fate_of fates ds fates are.1 k.0 d k.1 in
       let fate : here.fate ≡ Good typed = one_fate d fates fates (λ fs sound. agree_refl fates d.imports) here.fate (Good typed) here.is (files, imports, ready, good) in
-      (h.are).2 (packages_shown typed (at_member fates k.0 (Good typed) (here.at ∙ ap (λ (f : Fate). Some f) fate)))
+      (h.are).2 (packages_shown typed (at_member fates k.0 (Good typed) (here.at ∙ ap (λ (f : DirectoryOutcome). Some f) fate)))

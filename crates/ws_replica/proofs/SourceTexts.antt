@@ -15,8 +15,8 @@ use Rattle.go_meaning_laws.specs.WellTyped.{is_text}
 use Rattle.go_package_laws.specs.Packages.{AreOfTexts}
 use Rattle.ws_path.specs.Paths.{file_name}
 use Rattle.ws_version.specs.Writes.{Write, IsText, is_byte}
-use Rattle.ws_register.specs.Sources.{is_in, named, IsSources, HasFiles}
-use Rattle.ws_action.specs.Actions.{source_of}
+use Rattle.ws_register.specs.Sources.{is_in, by_file_name, IsSources, HasFiles}
+use Rattle.ws_action.specs.Actions.{source_with_name}
 use Rattle.ws_action.proofs.Members.{none_in_empty, head_or_later, at_head, later}
 use Rattle.ws_graph.specs.Packages.{is_built, package_files}
 use Rattle.ws_graph.specs.Plan.{AllParsed, IsSound}
@@ -41,7 +41,7 @@ next : (s : Pair) (ss : List Pair) (n : Pair) → OfSource ss n → OfSource (s 
 next s ss n (t, c, e) = (t, later {A = Pair} s ss t c, e)
 
 file_step : (dir : List ℕ) (s : Pair) (ss : List Pair) (b c : Bool) → is_in dir s.0 ≡ b → is_built (file_name s.0) ≡ c → (n : Pair) → Contains (package_files dir (s ∷ ss)) n → (Contains (package_files dir ss) n → OfSource ss n) → OfSource (s ∷ ss) n
-file_step dir s ss true true e f n c rest = elim (head_or_later {A = Pair} (named s) (package_files dir ss) n (subst (λ xs. Contains xs n) (files_step dir s ss true true e f) c)) [
+file_step dir s ss true true e f n c rest = elim (head_or_later {A = Pair} (by_file_name s) (package_files dir ss) n (subst (λ xs. Contains xs n) (files_step dir s ss true true e f) c)) [
   | inl same ↦ (s, at_head {A = Pair} ss s s refl, sym (ap (λ (x : Pair). x.1) same))
   | inr l ↦ next s ss n (rest l)
 ]
@@ -52,18 +52,18 @@ of_source : (dir : List ℕ) (ss : List Pair) (n : Pair) → Contains (package_f
 of_source dir [] n c = absurd (none_in_empty {A = Pair} n c)
 of_source dir (s ∷ ss) n c = file_step dir s ss (is_in dir s.0) (is_built (file_name s.0)) refl refl n c (λ d. of_source dir ss n d)
 
-contains_source : (files : List Parsed) (file : Parsed) → Contains files file → Contains (map source_of files) (source_of file)
+contains_source : (files : List Parsed) (file : Parsed) → Contains files file → Contains (map source_with_name files) (source_with_name file)
 contains_source [] file c = absurd (none_in_empty file c)
 contains_source (f ∷ files) file c = elim (head_or_later f files file c) [
-  | inl same ↦ at_head {A = Pair} (map source_of files) (source_of f) (source_of file) (ap source_of same)
-  | inr l ↦ later {A = Pair} (source_of f) (map source_of files) (source_of file) (contains_source files file l)
+  | inl same ↦ at_head {A = Pair} (map source_with_name files) (source_with_name f) (source_with_name file) (ap source_with_name same)
+  | inr l ↦ later {A = Pair} (source_with_name f) (map source_with_name files) (source_with_name file) (contains_source files file l)
 ]
 
 -- each file of a sound directory has a text
 pub files_are_text : (edition : Edition) (W : List Write) → HasFiles W → (sources : List Pair) → IsSources W sources → (path : List ℕ) (files : List Parsed) → IsSound edition (package_files path sources) files → (file : Parsed) → Contains files file → is_text file.text ≡ true
 files_are_text edition W has sources of path files sound file c =
-    let there : Contains (package_files path sources) (source_of file) = subst (λ (xs : List Pair). Contains xs (source_of file)) sound.parses.sources (contains_source files file c) in
-    let s = of_source path sources (source_of file) there in
+    let there : Contains (package_files path sources) (source_with_name file) = subst (λ (xs : List Pair). Contains xs (source_with_name file)) sound.parses.sources (contains_source files file c) in
+    let s = of_source path sources (source_with_name file) there in
     text_is file.text (subst IsText (sym s.2) (has sources of s.0 s.1).text)
 
 -- so the trees of its files are of texts

@@ -8,30 +8,30 @@ use Rattle.ws_reach.specs.Reach.{rows_of}
 use Rattle.std.proofs.lemmas.List.{map-append, take_more}
 use Rattle.go_code.specs.Packages.{Object}
 use Rattle.ws_action.specs.Actions.{Action}
-use Rattle.ws_board.specs.Work.{Seen, State}
+use Rattle.ws_board.specs.Work.{Seen, BoardState}
 use Rattle.ws_graph.specs.declared.planning.Directory.{Directory as RustDirectory}
 use Rattle.ws_graph.specs.Node.{directory_of}
 use Rattle.ws_graph.specs.BuildPlan.{Directory}
 use Rattle.ws_report.specs.declared.IdLine.{IdLine}
-use Rattle.ws_report.specs.declared.Standing.{Standing}
-use Rattle.ws_report.specs.Reports.{Verdict, id_row}
+use Rattle.ws_report.specs.declared.IdStatus.{IdStatus}
+use Rattle.ws_report.specs.Reports.{DirectoryVerdict, id_row}
 use Rattle.ws_replica.specs.declared.reached.Place.{Place as RustPlace}
 use Rattle.ws_replica.specs.declared.reached.Reached.{Reached as RustReached}
 use Rattle.ws_replica.specs.declared.reached.Shared.{Shared}
-use Rattle.ws_replica.specs.Jobs.{Place, Reached, place_of, shared_of, reached_of, reached_by, IsTold, AreTold}
-use Rattle.ws_replica.specs.Opened.{standing_in, rows_from, IsObjectAt, AreObjects}
+use Rattle.ws_replica.specs.Jobs.{Place, ReachedDirectory, place_seen, shared_of, reached_of, reached_by, IsVerdictOfJob, AreVerdicts}
+use Rattle.ws_replica.specs.Stopped.{id_status_in, rows_from, IsObjectAt, AreObjects}
 use Rattle.ws_replica.proofs.Numbered.{some_same}
 
 -- ---- what is told
 
-pub told_more : (result : ℕ → Option Action) (from k n : ℕ) (place : Place) (rest all : List Place) (row : List ℕ × Verdict) (rows more : List (List ℕ × Verdict)) → n ≡ suc k → row.0 ≡ place.path → IsTold place.fault (result k) row.1 → more ≡ rows ++ row ∷ [] → ((tail : List (List ℕ × Verdict)) → AreTold result k (place ∷ rest) tail → AreTold result from all (rows ++ tail)) → (tail : List (List ℕ × Verdict)) → AreTold result n rest tail → AreTold result from all (more ++ tail)
+pub told_more : (result : ℕ → Option Action) (from k n : ℕ) (place : Place) (rest all : List Place) (row : List ℕ × DirectoryVerdict) (rows more : List (List ℕ × DirectoryVerdict)) → n ≡ suc k → row.0 ≡ place.path → IsVerdictOfJob place.fault (result k) row.1 → more ≡ rows ++ row ∷ [] → ((tail : List (List ℕ × DirectoryVerdict)) → AreVerdicts result k (place ∷ rest) tail → AreVerdicts result from all (rows ++ tail)) → (tail : List (List ℕ × DirectoryVerdict)) → AreVerdicts result n rest tail → AreVerdicts result from all (more ++ tail)
 told_more result from k n place rest all row rows more next path told pushed h tail are =
-    subst (λ zs. AreTold result from all zs) (sym (ap (λ zs. zs ++ tail) pushed ∙ append_assoc rows (row ∷ []) tail))
-    (h (row ∷ tail) (path, told, subst (λ m. AreTold result m rest tail) next are))
+    subst (λ zs. AreVerdicts result from all zs) (sym (ap (λ zs. zs ++ tail) pushed ∙ append_assoc rows (row ∷ []) tail))
+    (h (row ∷ tail) (path, told, subst (λ m. AreVerdicts result m rest tail) next are))
 
 -- where nothing is left, all is told
-pub told_whole : (result : ℕ → Option Action) (from k : ℕ) (rest all : List Place) (rows : List (List ℕ × Verdict)) → rest ≡ [] → ((tail : List (List ℕ × Verdict)) → AreTold result k rest tail → AreTold result from all (rows ++ tail)) → AreTold result from all rows
-told_whole result from k rest all rows e h = subst (λ zs. AreTold result from all zs) (append-nil rows) (h [] (subst (λ zs. AreTold result k zs []) (sym e) tt))
+pub told_whole : (result : ℕ → Option Action) (from k : ℕ) (rest all : List Place) (rows : List (List ℕ × DirectoryVerdict)) → rest ≡ [] → ((tail : List (List ℕ × DirectoryVerdict)) → AreVerdicts result k rest tail → AreVerdicts result from all (rows ++ tail)) → AreVerdicts result from all rows
+told_whole result from k rest all rows e h = subst (λ zs. AreVerdicts result from all zs) (append-nil rows) (h [] (subst (λ zs. AreVerdicts result k zs []) (sym e) tt))
 
 -- ---- what was reached
 
@@ -47,26 +47,26 @@ shared_next done pushed x d left rest total p l one h =
 pub reached_next : (edition : Edition) (directories : List Shared) (i : ℕ) (d : Shared) (done pushed : List RustReached) (x : RustReached) → i < length directories → d ≡ get_or directories i d → pushed ≡ done ++ x ∷ [] → reached_of x ≡ reached_by edition (shared_of d)
     → map reached_of done ≡ map (reached_by edition) (map shared_of (take i directories)) → map reached_of pushed ≡ map (reached_by edition) (map shared_of (take (i + 1) directories))
 reached_next edition directories i d done pushed x within at push one h =
-    let done_by : List Shared → List Reached = λ ds. map (reached_by edition) (map shared_of ds) in
+    let done_by : List Shared → List ReachedDirectory = λ ds. map (reached_by edition) (map shared_of ds) in
     let more : take (i + 1) directories ≡ take i directories ++ d ∷ [] = take_more directories i d within ∙ ap (λ z. take i directories ++ z ∷ []) (sym at) in
     ap (map reached_of) push ∙ map-append reached_of done (x ∷ []) ∙ ap (λ zs. zs ++ reached_of x ∷ []) h ∙ ap (λ z. done_by (take i directories) ++ z ∷ []) one
     ∙ sym (ap done_by more ∙ ap (map (reached_by edition)) (map-append shared_of (take i directories) (d ∷ [])) ∙ map-append (reached_by edition) (map shared_of (take i directories)) (shared_of d ∷ []))
 
 -- ---- ids
 
-pub rows_next : (state : State) (lines pushed : List IdLine) (x : IdLine) (p : RustPlace) (left rest : List RustPlace) (total : List (List ℕ × Standing)) → pushed ≡ lines ++ x ∷ [] → left ≡ p ∷ rest → id_row x ≡ (string_bytes p.path, standing_in state (length lines))
-    → map id_row lines ++ rows_from state (length lines) (map place_of left) ≡ total → map id_row pushed ++ rows_from state (length pushed) (map place_of rest) ≡ total
+pub rows_next : (state : BoardState) (lines pushed : List IdLine) (x : IdLine) (p : RustPlace) (left rest : List RustPlace) (total : List (List ℕ × IdStatus)) → pushed ≡ lines ++ x ∷ [] → left ≡ p ∷ rest → id_row x ≡ (string_bytes p.path, id_status_in state (length lines))
+    → map id_row lines ++ rows_from state (length lines) (map place_seen left) ≡ total → map id_row pushed ++ rows_from state (length pushed) (map place_seen rest) ≡ total
 rows_next state lines pushed x p left rest total push next one h =
     let size : length pushed ≡ suc (length lines) = ap length push ∙ length-append lines (x ∷ []) ∙ (let z : length lines + 1 ≡ suc (length lines) = omega arith in z) in
-    ap (λ zs. map id_row zs ++ rows_from state (length pushed) (map place_of rest)) push
-    ∙ ap (λ n. map id_row (lines ++ x ∷ []) ++ rows_from state n (map place_of rest)) size
-    ∙ ap (λ zs. zs ++ rows_from state (suc (length lines)) (map place_of rest)) (map-append id_row lines (x ∷ []))
-    ∙ append_assoc (map id_row lines) (id_row x ∷ []) (rows_from state (suc (length lines)) (map place_of rest))
-    ∙ ap (λ z. map id_row lines ++ (z ∷ rows_from state (suc (length lines)) (map place_of rest))) one
-    ∙ ap (λ zs. map id_row lines ++ rows_from state (length lines) (map place_of zs)) (sym next) ∙ h
+    ap (λ zs. map id_row zs ++ rows_from state (length pushed) (map place_seen rest)) push
+    ∙ ap (λ n. map id_row (lines ++ x ∷ []) ++ rows_from state n (map place_seen rest)) size
+    ∙ ap (λ zs. zs ++ rows_from state (suc (length lines)) (map place_seen rest)) (map-append id_row lines (x ∷ []))
+    ∙ append_assoc (map id_row lines) (id_row x ∷ []) (rows_from state (suc (length lines)) (map place_seen rest))
+    ∙ ap (λ z. map id_row lines ++ (z ∷ rows_from state (suc (length lines)) (map place_seen rest))) one
+    ∙ ap (λ zs. map id_row lines ++ rows_from state (length lines) (map place_seen zs)) (sym next) ∙ h
 
-pub rows_whole : (state : State) (lines : List IdLine) (rest : List RustPlace) (total : List (List ℕ × Standing)) → rest ≡ [] → map id_row lines ++ rows_from state (length lines) (map place_of rest) ≡ total → map id_row lines ≡ total
-rows_whole state lines rest total none h = sym (append-nil (map id_row lines)) ∙ ap (λ zs. map id_row lines ++ rows_from state (length lines) (map place_of zs)) (sym none) ∙ h
+pub rows_whole : (state : BoardState) (lines : List IdLine) (rest : List RustPlace) (total : List (List ℕ × IdStatus)) → rest ≡ [] → map id_row lines ++ rows_from state (length lines) (map place_seen rest) ≡ total → map id_row lines ≡ total
+rows_whole state lines rest total none h = sym (append-nil (map id_row lines)) ∙ ap (λ zs. map id_row lines ++ rows_from state (length lines) (map place_seen zs)) (sym none) ∙ h
 
 -- ---- objects
 
@@ -99,10 +99,10 @@ mapped_next f xs i d within e =
     ap (map f) (take_more xs i d within ∙ ap (λ y. take i xs ++ y ∷ []) (sym e)) ∙ map-append f (take i xs) (d ∷ [])
 
 pub imports_next : (reached : List RustReached) (i : ℕ) (d : RustReached) (rows pushed : List (Vec ℕ Global)) (row : Vec ℕ Global) → i < length reached → d ≡ get_or reached i d → pushed ≡ rows ++ row ∷ [] → row.items ≡ d.imports.items
-    → rows_of rows ≡ map (λ (r : Reached). r.imports) (map reached_of (take i reached)) → rows_of pushed ≡ map (λ (r : Reached). r.imports) (map reached_of (take (i + 1) reached))
+    → rows_of rows ≡ map (λ (r : ReachedDirectory). r.imports) (map reached_of (take i reached)) → rows_of pushed ≡ map (λ (r : ReachedDirectory). r.imports) (map reached_of (take (i + 1) reached))
 imports_next reached i d rows pushed row within e push same h =
-    ap rows_of push ∙ map-append (λ (v : Vec ℕ Global). v.items) rows (row ∷ []) ∙ ap (λ zs. zs ++ row.items ∷ []) h ∙ ap (λ z. map (λ (r : Reached). r.imports) (map reached_of (take i reached)) ++ z ∷ []) same
-    ∙ sym (ap (map (λ (r : Reached). r.imports)) (mapped_next reached_of reached i d within e) ∙ map-append (λ (r : Reached). r.imports) (map reached_of (take i reached)) (reached_of d ∷ []))
+    ap rows_of push ∙ map-append (λ (v : Vec ℕ Global). v.items) rows (row ∷ []) ∙ ap (λ zs. zs ++ row.items ∷ []) h ∙ ap (λ z. map (λ (r : ReachedDirectory). r.imports) (map reached_of (take i reached)) ++ z ∷ []) same
+    ∙ sym (ap (map (λ (r : ReachedDirectory). r.imports)) (mapped_next reached_of reached i d within e) ∙ map-append (λ (r : ReachedDirectory). r.imports) (map reached_of (take i reached)) (reached_of d ∷ []))
 
 pub if_none : {A : Type 0} (o : Option A) (P : Type 0) → ((x : A) → o ≡ Some x → ⊥) → IfNone o P → P
 if_none None P n h = h

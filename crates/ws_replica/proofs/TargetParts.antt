@@ -7,16 +7,16 @@ use Rattle.go_text.specs.declared.edition.Edition.{Edition}
 use Rattle.ws_map.specs.Kept.{SameMembers}
 use Rattle.ws_action.specs.Actions.{Action}
 use Rattle.ws_action.proofs.Members.{none_in_empty, head_or_later, at_head, later}
-use Rattle.ws_graph.specs.BuildPlan.{Sources, Reaches, Directory, paths_of, IsBuildPlanOf, IsJointPlan}
+use Rattle.ws_graph.specs.BuildPlan.{Sources, ReachesByImports, Directory, paths_of, IsBuildPlanOf, IsJointPlan}
 use Rattle.ws_graph.proofs.Linked.{map_left, map_right}
 use Rattle.ws_graph.proofs.SomeBuildPlan.{some_build_plan}
 use Rattle.ws_report.specs.declared.Report.{Report}
 use Rattle.ws_reach.proofs.Reached.{get_contains}
-use Rattle.ws_replica.specs.Builds.{took_at, AreBuilds}
+use Rattle.ws_replica.specs.Builds.{took_at, AreBuildsOfTargets}
 use Rattle.ws_replica.specs.Holdings.{Took}
-use Rattle.ws_replica.specs.Jobs.{Reached, reached_by, rows_of}
-use Rattle.ws_replica.specs.Parts.{Part, reached_paths, reached_rows, ArePart, IsPartOf, IsToldPart}
-use Rattle.ws_replica.specs.Reports.{Fate, TargetBuild, IsTargetBuild, report_of, actions_of, all_actions}
+use Rattle.ws_replica.specs.Jobs.{ReachedDirectory, reached_by, report_rows}
+use Rattle.ws_replica.specs.Parts.{TargetPart, reached_paths, reached_rows, ArePart, IsPartOf, IsReportPart}
+use Rattle.ws_replica.specs.Reports.{DirectoryOutcome, TargetBuild, IsTargetBuild, report_of, actions_of, all_actions}
 use Rattle.ws_replica.specs.Targets.{directories_at}
 use Rattle.ws_replica.proofs.Numbered.{some_same}
 use Rattle.ws_replica.proofs.OwnBuilds.{ActionAt, from_actions, own_build, own_fated, own_into, own_back, own_report}
@@ -83,18 +83,18 @@ module _ (edition : Edition) (took : List Took) (ps : List (Piece edition took))
     pub at : slice_get ps target.0 ≡ Some piece
     pub is : IsTargetBuild edition (took_at took target.0).writes target.1 (Some build)
     pub into : (a : Action) → Contains (actions_of edition build) a → Contains (actions_of edition piece.build) a
-    pub back : (a : Action) (x : ActionAt edition piece.build.fates piece.build.directories piece.build.fates a) → Reaches edition piece.of.0 target.1 x.directory.path → Contains (actions_of edition build) a
+    pub back : (a : Action) (x : ActionAt edition piece.build.fates piece.build.directories piece.build.fates a) → ReachesByImports edition piece.of.0 target.1 x.directory.path → Contains (actions_of edition build) a
     pub whole : Report
     pub whole_in : Contains told whole
     pub compiled : report.compiled ≡ whole.compiled
-    pub tells : map rows_of told ≡ map report_of (builds_of edition took ps) → rows_of report ≡ report_of build
+    pub tells : map report_rows told ≡ map report_of (builds_of edition took ps) → report_rows report ≡ report_of build
 
-  own_of : (p : Piece edition took) (t : ℕ × List ℕ) (part : Part) (report : Report) → slice_get ps t.0 ≡ Some p → p.number ≡ t.0 → Contains p.targets t.1 → part.replica ≡ t.0 → ArePart (reached_paths p.reached) (reached_rows p.reached) t.1 part.numbers → IsToldPart told part report
+  own_of : (p : Piece edition took) (t : ℕ × List ℕ) (part : TargetPart) (report : Report) → slice_get ps t.0 ≡ Some p → p.number ≡ t.0 → Contains p.targets t.1 → part.replica ≡ t.0 → ArePart (reached_paths p.reached) (reached_rows p.reached) t.1 part.numbers → IsReportPart told part report
       → (o : Own) × (o.target ≡ t) × (o.report ≡ report)
   own_of p t part report at number among replica part_is told_is =
       let sources : Sources = p.of.0 in
       let us : List Directory = p.build.directories in
-      let fs : List Fate = p.build.fates in
+      let fs : List DirectoryOutcome = p.build.fates in
       let joint : IsJointPlan edition sources p.targets us = p.of.2 in
       let own = some_build_plan edition sources t.1 (joint.files t.1 among) in
       let ds : List Directory = own.0 in
@@ -116,7 +116,7 @@ module _ (edition : Edition) (took : List Took) (ps : List (Piece edition took))
           whole_in = get_contains told part.replica told_is.whole told_is.at;
           compiled = told_is.compiled;
           tells = λ same.
-              let its : rows_of told_is.whole ≡ report_of p.build = rows_at told_is.whole (subst (λ k. slice_get told k ≡ Some told_is.whole) replica told_is.at) same in
+              let its : report_rows told_is.whole ≡ report_of p.build = rows_at told_is.whole (subst (λ k. slice_get told k ≡ Some told_is.whole) replica told_is.at) same in
               told_is.rows ∙ ap (λ rs. filter_map (slice_get rs) part.numbers) its
               ∙ own_report edition sources p.targets us fs joint p.fated t.1 among ds own.1 part.numbers (is_part edition sources p.targets us joint t.1 among part.numbers walked);
         },
@@ -124,10 +124,10 @@ module _ (edition : Edition) (took : List Took) (ps : List (Piece edition took))
         refl,
       )
     where
-      rows_at : (whole : Report) → slice_get told t.0 ≡ Some whole → map rows_of told ≡ map report_of (builds_of edition took ps) → rows_of whole ≡ report_of p.build
+      rows_at : (whole : Report) → slice_get told t.0 ≡ Some whole → map report_rows told ≡ map report_of (builds_of edition took ps) → report_rows whole ≡ report_of p.build
       rows_at whole there same =
-          some_same (rows_of whole) (report_of p.build) (
-          sym (map_right rows_of told t.0 whole there) ∙ ap (λ zs. slice_get zs t.0) same
+          some_same (report_rows whole) (report_of p.build) (
+          sym (map_right report_rows told t.0 whole there) ∙ ap (λ zs. slice_get zs t.0) same
           ∙ map_right report_of (builds_of edition took ps) t.0 p.build (map_right (λ (x : Piece edition took). x.build) ps t.0 p at))
 
   -- those of some targets
@@ -136,15 +136,15 @@ module _ (edition : Edition) (took : List Took) (ps : List (Piece edition took))
     pub targets_are : map (λ (o : Own). o.target) list ≡ ts
     pub reports_are : map (λ (o : Own). o.report) list ≡ reports
 
-  module _ (targets : List (ℕ × List ℕ)) (all : List (List Reached)) (all_are : map (λ (p : Piece edition took). p.reached) ps ≡ all) (each : (k : ℕ) (p : Piece edition took) → slice_get ps k ≡ Some p → (p.number ≡ k) × (p.targets ≡ directories_at targets k)) where
-    one_own : (t : ℕ × List ℕ) (part : Part) (report : Report) → Contains targets t → IsPartOf all t part → IsToldPart told part report → (o : Own) × (o.target ≡ t) × (o.report ≡ report)
+  module _ (targets : List (ℕ × List ℕ)) (all : List (List ReachedDirectory)) (all_are : map (λ (p : Piece edition took). p.reached) ps ≡ all) (each : (k : ℕ) (p : Piece edition took) → slice_get ps k ≡ Some p → (p.number ≡ k) × (p.targets ≡ directories_at targets k)) where
+    one_own : (t : ℕ × List ℕ) (part : TargetPart) (report : Report) → Contains targets t → IsPartOf all t part → IsReportPart told part report → (o : Own) × (o.target ≡ t) × (o.report ≡ report)
     one_own t part report among of told_is =
         let p = map_left (λ (x : Piece edition took). x.reached) ps t.0 of.reached (ap (λ zs. slice_get zs t.0) all_are ∙ of.at) in
         let its = each t.0 p.0 p.1 in
         own_of p.0 t part report p.1 its.0 (subst (λ ds. Contains ds t.1) (sym its.1) (into_directories t.0 targets t.1 among)) of.replica
         (subst (λ rs. ArePart (reached_paths rs) (reached_rows rs) t.1 part.numbers) p.2 of.are) told_is
 
-    pub owns_of : (ts : List (ℕ × List ℕ)) (parts : List Part) (reports : List Report) → ((t : ℕ × List ℕ) → Contains ts t → Contains targets t) → AllZip (IsPartOf all) ts parts → AllZip (IsToldPart told) parts reports → Owns ts reports
+    pub owns_of : (ts : List (ℕ × List ℕ)) (parts : List TargetPart) (reports : List Report) → ((t : ℕ × List ℕ) → Contains ts t → Contains targets t) → AllZip (IsPartOf all) ts parts → AllZip (IsReportPart told) parts reports → Owns ts reports
     owns_of [] [] [] among g h = record { list = []; targets_are = refl; reports_are = refl }
     owns_of [] [] (r ∷ reports) among g h = absurd h
     owns_of [] (p ∷ parts) reports among g h = absurd g
@@ -162,13 +162,13 @@ module _ (edition : Edition) (took : List Took) (ps : List (Piece edition took))
   abbrev pub own_builds : List Own → List TargetBuild
   own_builds os = map (λ (o : Own). o.build) os
 
-  pub owns_are : (os : List Own) → AreBuilds edition took (map (λ (o : Own). o.target) os) (own_builds os)
+  pub owns_are : (os : List Own) → AreBuildsOfTargets edition took (map (λ (o : Own). o.target) os) (own_builds os)
   owns_are [] = tt
   owns_are (o ∷ os) = (o.is, owns_are os)
 
-  pub owns_tell : map rows_of told ≡ map report_of (builds_of edition took ps) → (os : List Own) → map rows_of (map (λ (o : Own). o.report) os) ≡ map report_of (own_builds os)
+  pub owns_tell : map report_rows told ≡ map report_of (builds_of edition took ps) → (os : List Own) → map report_rows (map (λ (o : Own). o.report) os) ≡ map report_of (own_builds os)
   owns_tell same [] = refl
-  owns_tell same (o ∷ os) = ap (λ z. z ∷ map rows_of (map (λ (o : Own). o.report) os)) (o.tells same) ∙ ap (λ zs. report_of o.build ∷ zs) (owns_tell same os)
+  owns_tell same (o ∷ os) = ap (λ z. z ∷ map report_rows (map (λ (o : Own). o.report) os)) (o.tells same) ∙ ap (λ zs. report_of o.build ∷ zs) (owns_tell same os)
 
   pub owns_count : (n : ℕ) → ((r : Report) → Contains told r → r.compiled ≡ n) → (os : List Own) (r : Report) → Contains (map (λ (o : Own). o.report) os) r → r.compiled ≡ n
   owns_count n h [] r c = absurd (none_in_empty r c)
@@ -215,15 +215,15 @@ module _ (edition : Edition) (took : List Took) (ps : List (Piece edition took))
         let o = own_with os (s.0, way.0) (subst (λ (ts : List (ℕ × List ℕ)). Contains ts (s.0, way.0)) (sym targets_are) t) in
         in_all o.0.build (own_builds os) a (into_map (λ (o : Own). o.build) os o.0 o.1) (by_piece o.0 s.0 way.0 o.2 p s.2 x way.2)
       where
-        with_piece : (o : Own) (p : Piece edition took) → p ≡ o.piece → (x : ActionAt edition p.build.fates p.build.directories p.build.fates a) → Reaches edition p.of.0 o.target.1 x.directory.path → Contains (actions_of edition o.build) a
+        with_piece : (o : Own) (p : Piece edition took) → p ≡ o.piece → (x : ActionAt edition p.build.fates p.build.directories p.build.fates a) → ReachesByImports edition p.of.0 o.target.1 x.directory.path → Contains (actions_of edition o.build) a
         with_piece o p e =
-            subst (λ (q : Piece edition took). (x : ActionAt edition q.build.fates q.build.directories q.build.fates a) → Reaches edition q.of.0 o.target.1 x.directory.path → Contains (actions_of edition o.build) a) (sym e) (o.back a)
+            subst (λ (q : Piece edition took). (x : ActionAt edition q.build.fates q.build.directories q.build.fates a) → ReachesByImports edition q.of.0 o.target.1 x.directory.path → Contains (actions_of edition o.build) a) (sym e) (o.back a)
 
-        by_piece : (o : Own) (k : ℕ) (d : List ℕ) → o.target ≡ (k, d) → (p : Piece edition took) → slice_get ps k ≡ Some p → (x : ActionAt edition p.build.fates p.build.directories p.build.fates a) → Reaches edition p.of.0 d x.directory.path → Contains (actions_of edition o.build) a
+        by_piece : (o : Own) (k : ℕ) (d : List ℕ) → o.target ≡ (k, d) → (p : Piece edition took) → slice_get ps k ≡ Some p → (x : ActionAt edition p.build.fates p.build.directories p.build.fates a) → ReachesByImports edition p.of.0 d x.directory.path → Contains (actions_of edition o.build) a
         by_piece o k d same p at x way =
             let its : o.piece ≡ p = some_same o.piece p (sym o.at ∙ ap (λ (t : ℕ × List ℕ). slice_get ps t.0) same ∙ at) in
             let path : o.target.1 ≡ d = ap (λ (t : ℕ × List ℕ). t.1) same in
-            with_piece o p (sym its) x (subst (λ z. Reaches edition p.of.0 z x.directory.path) (sym path) way)
+            with_piece o p (sym its) x (subst (λ z. ReachesByImports edition p.of.0 z x.directory.path) (sym path) way)
 
     pub same_actions : SameMembers (all_actions edition (own_builds os)) (all_actions edition (builds_of edition took ps))
     same_actions a = (owns_into os a, owns_back a)

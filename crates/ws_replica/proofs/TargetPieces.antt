@@ -15,7 +15,7 @@ use Rattle.ws_action.proofs.Members.{none_in_empty, head_or_later}
 use Rattle.ws_board.specs.Work.{Job, Opening}
 use Rattle.ws_board.specs.Machine.{is_finish}
 use Rattle.ws_board.specs.Calls.{result_at}
-use Rattle.ws_board.specs.Ends.{End, end_at, came_of, came, somes, IsEnd, AreEnds, IsRanked, AreClear, ComesTo}
+use Rattle.ws_board.specs.Ends.{End, end_at, end_result, end_results, somes, IsEnd, AreEnds, IsRanked, AreClear, HasResultsOf}
 use Rattle.ws_cache.specs.Count.{compiled_count}
 use Rattle.ws_cache.specs.Held.{id_cmp, CacheStandsFor}
 use Rattle.ws_cache.specs.Joined.{lesser}
@@ -23,11 +23,11 @@ use Rattle.ws_graph.specs.BuildPlan.{Directory, IsBuildPlanOf, IsJointPlanOf, Ar
 use Rattle.ws_graph.proofs.RankedPlan.{ranked_whole as plan_ranks}
 use Rattle.ws_graph.proofs.Wholes.{IsWholeOf, whole_plan_of, whole_joint_of}
 use Rattle.ws_report.specs.declared.Report.{Report}
-use Rattle.ws_report.specs.Reports.{Verdict}
+use Rattle.ws_report.specs.Reports.{DirectoryVerdict}
 use Rattle.ws_replica.specs.Builds.{took_at}
 use Rattle.ws_replica.specs.Holdings.{Replica, ReplicaStandsFor, Took, AllStandFor}
-use Rattle.ws_replica.specs.Jobs.{Place, Reached, reached_by, job_after, jobs_after, AreTold, AllTold, rows_of, IsRun}
-use Rattle.ws_replica.specs.Reports.{AreFates, actions_of, all_actions, report_of, TargetBuild}
+use Rattle.ws_replica.specs.Jobs.{Place, ReachedDirectory, reached_by, job_after, jobs_after, AreVerdicts, AllAreVerdicts, report_rows, IsRun}
+use Rattle.ws_replica.specs.Reports.{AreDirectoryOutcomes, actions_of, all_actions, report_of, TargetBuild}
 use Rattle.ws_replica.specs.Targets.{IsReached, directories_at}
 use Rattle.ws_replica.proofs.EndFates.{ends_by, IsCompiled, are_ends, came_are, place_in, told_report, ends_length, jobs_ranked}
 use Rattle.ws_replica.proofs.Numbered.{some_same}
@@ -40,10 +40,10 @@ use Rattle.ws_replica.proofs.SomeBuild.{some_fates}
 pub record Piece (edition : Edition) (took : List Took) : Type 0 where
   pub number : ℕ
   pub targets : List (List ℕ)
-  pub reached : List Reached
+  pub reached : List ReachedDirectory
   pub build : TargetBuild
   pub of : IsJointPlanOf edition (took_at took number).writes targets build.directories
-  pub fated : AreFates build.directories build.fates
+  pub fated : AreDirectoryOutcomes build.directories build.fates
   pub same : reached ≡ map (reached_by edition) build.directories
   pub inside : (d : Directory) → Contains build.directories d → (k : ℕ) → Contains d.imports k → k < length build.directories
   pub files : HasFiles (took_at took number).writes
@@ -65,7 +65,7 @@ whole_inside edition W ds of d c k among =
 pub plan_inside : (edition : Edition) (W : List Write) (target : List ℕ) (ds : List Directory) → IsBuildPlanOf edition W target ds → (d : Directory) → Contains ds d → (k : ℕ) → Contains d.imports k → k < length ds
 plan_inside edition W target ds of = whole_inside edition W ds (whole_plan_of edition W target ds of)
 
-piece_of : (edition : Edition) (replicas : List Replica) (took : List Took) → AllStandFor replicas took → (targets : List (ℕ × List ℕ)) (k : ℕ) (rs : List Reached) → IsReached edition replicas targets k rs
+piece_of : (edition : Edition) (replicas : List Replica) (took : List Took) → AllStandFor replicas took → (targets : List (ℕ × List ℕ)) (k : ℕ) (rs : List ReachedDirectory) → IsReached edition replicas targets k rs
     → (p : Piece edition took) × (p.number ≡ k) × (p.targets ≡ directories_at targets k) × (p.reached ≡ rs)
 piece_of edition replicas took all targets k rs h =
     let W : List Write = (took_at took k).writes in
@@ -91,7 +91,7 @@ piece_of edition replicas took all targets k rs h =
     )
 
 -- all pieces of what was reached, from the replica of the number n on
-pub record Pieces (edition : Edition) (took : List Took) (targets : List (ℕ × List ℕ)) (n : ℕ) (all : List (List Reached)) : Type 0 where
+pub record Pieces (edition : Edition) (took : List Took) (targets : List (ℕ × List ℕ)) (n : ℕ) (all : List (List ReachedDirectory)) : Type 0 where
   pub list : List (Piece edition took)
   pub all_are : map (λ (p : Piece edition took). p.reached) list ≡ all
   pub each : (k : ℕ) (p : Piece edition took) → slice_get list k ≡ Some p → (p.number ≡ n + k) × (p.targets ≡ directories_at targets (n + k))
@@ -108,8 +108,8 @@ each_more edition took targets n q list number its rest (suc k) p at =
     let there = rest k p at in
     (there.0 ∙ place, there.1 ∙ ap (directories_at targets) place)
 
-pub pieces_of : (edition : Edition) (replicas : List Replica) (took : List Took) → AllStandFor replicas took → (targets : List (ℕ × List ℕ)) (n : ℕ) (all : List (List Reached))
-    → ((k : ℕ) (rs : List Reached) → slice_get all k ≡ Some rs → IsReached edition replicas targets (n + k) rs) → Pieces edition took targets n all
+pub pieces_of : (edition : Edition) (replicas : List Replica) (took : List Took) → AllStandFor replicas took → (targets : List (ℕ × List ℕ)) (n : ℕ) (all : List (List ReachedDirectory))
+    → ((k : ℕ) (rs : List ReachedDirectory) → slice_get all k ≡ Some rs → IsReached edition replicas targets (n + k) rs) → Pieces edition took targets n all
 pieces_of edition replicas took stand targets n [] h = record { list = []; all_are = refl; each = λ k p at. cc (at) }
 pieces_of edition replicas took stand targets n (rs ∷ all) h =
     let first : IsReached edition replicas targets n rs = subst (λ m. IsReached edition replicas targets m rs) (let z : n + 0 ≡ n = omega arith in z) (h 0 rs refl) in
@@ -117,7 +117,7 @@ pieces_of edition replicas took stand targets n (rs ∷ all) h =
     let rest = pieces_of edition replicas took stand targets (suc n) all (λ k xs at. subst (λ m. IsReached edition replicas targets m xs) (let z : n + suc k ≡ suc n + k = omega arith in z) (h (suc k) xs at)) in
     record {
       list = p.0 ∷ rest.list;
-      all_are = ap (λ (x : List Reached). x ∷ map (λ (p : Piece edition took). p.reached) rest.list) p.3 ∙ ap (λ xs. rs ∷ xs) rest.all_are;
+      all_are = ap (λ (x : List ReachedDirectory). x ∷ map (λ (p : Piece edition took). p.reached) rest.list) p.3 ∙ ap (λ xs. rs ∷ xs) rest.all_are;
       each = each_more edition took targets n p.0 rest.list p.1 p.2 rest.each;
     }
 
@@ -125,7 +125,7 @@ module _ (edition : Edition) (took : List Took) where
   abbrev pub builds_of : List (Piece edition took) → List TargetBuild
   builds_of ps = map (λ (p : Piece edition took). p.build) ps
 
-  abbrev pub reached_of_all : List (Piece edition took) → List (List Reached)
+  abbrev pub reached_of_all : List (Piece edition took) → List (List ReachedDirectory)
   reached_of_all ps = map (λ (p : Piece edition took). p.reached) ps
 
   abbrev ends_of : Piece edition took → List End
@@ -150,7 +150,7 @@ module _ (edition : Edition) (took : List Took) where
       each : AreWithin (length p.build.directories) (map (reached_by edition) p.build.directories)
       each r c k among =
           let at = from_map (reached_by edition) p.build.directories r c in
-          p.inside at.0 at.1 k (subst (λ (x : Reached). Contains x.imports k) (sym at.2) among)
+          p.inside at.0 at.1 k (subst (λ (x : ReachedDirectory). Contains x.imports k) (sym at.2) among)
 
   piece_ranked : (p : Piece edition took) (n : ℕ) → (rank : ℕ → ℕ) × IsRankedFrom n rank (map (job_after n) p.reached)
   piece_ranked p n =
@@ -179,14 +179,14 @@ module _ (edition : Edition) (took : List Took) where
 
   -- ---- ends
 
-  came_append : (xs ys : List End) → came (xs ++ ys) ≡ came xs ++ came ys
-  came_append xs ys = ap somes (map-append came_of xs ys) ∙ somes_append (map came_of xs) (map came_of ys)
+  came_append : (xs ys : List End) → end_results (xs ++ ys) ≡ end_results xs ++ end_results ys
+  came_append xs ys = ap somes (map-append end_result xs ys) ∙ somes_append (map end_result xs) (map end_result ys)
 
-  pub all_came : (ps : List (Piece edition took)) → came (all_ends ps) ≡ all_actions edition (builds_of ps)
+  pub all_came : (ps : List (Piece edition took)) → end_results (all_ends ps) ≡ all_actions edition (builds_of ps)
   all_came [] = refl
   all_came (p ∷ ps) =
       came_append (ends_of p) (all_ends ps)
-      ∙ ap (λ xs. xs ++ came (all_ends ps)) (came_are edition p.build.fates p.build.directories p.build.fates)
+      ∙ ap (λ xs. xs ++ end_results (all_ends ps)) (came_are edition p.build.fates p.build.directories p.build.fates)
       ∙ ap (λ xs. actions_of edition p.build ++ xs) (all_came ps)
 
   module _ (whole : List End) where
@@ -207,24 +207,24 @@ module _ (edition : Edition) (took : List Took) where
   -- ---- what is told
 
   abbrev places_of_all : List (Piece edition took) → List (List Place)
-  places_of_all ps = map (λ (reached : List Reached). map (λ (r : Reached). r.place) reached) (reached_of_all ps)
+  places_of_all ps = map (λ (reached : List ReachedDirectory). map (λ (r : ReachedDirectory). r.place) reached) (reached_of_all ps)
 
-  abbrev rows_of_all : List (Piece edition took) → List (List (List ℕ × Verdict))
+  abbrev rows_of_all : List (Piece edition took) → List (List (List ℕ × DirectoryVerdict))
   rows_of_all ps = map report_of (builds_of ps)
 
-  pub places_same : (ds : List Directory) → map (λ (r : Reached). r.place) (map (reached_by edition) ds) ≡ map place_in ds
+  pub places_same : (ds : List Directory) → map (λ (r : ReachedDirectory). r.place) (map (reached_by edition) ds) ≡ map place_in ds
   places_same [] = refl
   places_same (d ∷ ds) = ap (λ ps. place_in d ∷ ps) (places_same ds)
 
-  module _ (whole : List End) (result : ℕ → Option Action) (results : (j : ℕ) → result j ≡ came_of (end_at whole j)) (compiled : (j : ℕ) → IsCompiled (end_at whole j)) where
+  module _ (whole : List End) (result : ℕ → Option Action) (results : (j : ℕ) → result j ≡ end_result (end_at whole j)) (compiled : (j : ℕ) → IsCompiled (end_at whole j)) where
     piece_told : (p : Piece edition took) (n : ℕ) → ((k : ℕ) → k < length p.build.directories → end_at whole (n + k) ≡ end_at (ends_of p) k)
-        → (rows : List (List ℕ × Verdict)) → AreTold result n (map (λ (r : Reached). r.place) p.reached) rows → rows ≡ report_of p.build
+        → (rows : List (List ℕ × DirectoryVerdict)) → AreVerdicts result n (map (λ (r : ReachedDirectory). r.place) p.reached) rows → rows ≡ report_of p.build
     piece_told p n within rows told =
         told_report edition p.build.fates result n p.build.directories p.build.fates rows p.fated
-        (λ j lt. (results (n + j) ∙ ap came_of (within j lt), subst IsCompiled (within j lt) (compiled (n + j))))
-        (subst (λ (ps : List Place). AreTold result n ps rows) (ap (map (λ (r : Reached). r.place)) p.same ∙ places_same p.build.directories) told)
+        (λ j lt. (results (n + j) ∙ ap end_result (within j lt), subst IsCompiled (within j lt) (compiled (n + j))))
+        (subst (λ (ps : List Place). AreVerdicts result n ps rows) (ap (map (λ (r : ReachedDirectory). r.place)) p.same ∙ places_same p.build.directories) told)
 
-    all_told : (ps : List (Piece edition took)) (n : ℕ) (front : List End) → whole ≡ front ++ all_ends ps → length front ≡ n → (rows : List (List (List ℕ × Verdict))) → AllTold result n (places_of_all ps) rows → rows ≡ rows_of_all ps
+    all_told : (ps : List (Piece edition took)) (n : ℕ) (front : List End) → whole ≡ front ++ all_ends ps → length front ≡ n → (rows : List (List (List ℕ × DirectoryVerdict))) → AllAreVerdicts result n (places_of_all ps) rows → rows ≡ rows_of_all ps
     all_told [] n front is long [] told = refl
     all_told [] n front is long (row ∷ rows) told = absurd told
     all_told (p ∷ ps) n front is long [] told = absurd told
@@ -232,8 +232,8 @@ module _ (edition : Edition) (took : List Took) where
         let size = piece_directories p in
         let here = piece_told p n (λ k lt. end_within whole front (ends_of p) (all_ends ps) n is long k (omega (arith, lt, size))) row told.0 in
         let rest = all_told ps (n + length p.reached) (front ++ ends_of p) (is ∙ sym (append_assoc front (ends_of p) (all_ends ps))) (omega (arith, length-append front (ends_of p), piece_size p, long)) rows
-        (subst (λ m. AllTold result (n + m) (places_of_all ps) rows) (length-map p.reached (λ (r : Reached). r.place)) told.1) in
-        ap (λ (x : List (List ℕ × Verdict)). x ∷ rows) here ∙ ap (λ xs. report_of p.build ∷ xs) rest
+        (subst (λ m. AllAreVerdicts result (n + m) (places_of_all ps) rows) (length-map p.reached (λ (r : ReachedDirectory). r.place)) told.1) in
+        ap (λ (x : List (List ℕ × DirectoryVerdict)). x ∷ rows) here ∙ ap (λ xs. report_of p.build ∷ xs) rest
 
   -- ---- the run
 
@@ -244,12 +244,12 @@ module _ (edition : Edition) (took : List Took) where
     cache_is : run.board.opening.cache ≡ cache
     cache_is = ap (λ (o : Opening). o.cache) run.opening
 
-    comes : ComesTo run.board E (all_ends ps)
+    comes : HasResultsOf run.board E (all_ends ps)
     comes =
         let ranks = all_ranked ps in
         run.ends E ranks.0 (all_ends ps) (subst (λ (m : FinMap id_cmp Action). CacheStandsFor m E) (sym cache_is) stands) (subst (IsRanked ranks.0) (sym jobs_are) ranks.1)
         (subst (λ js. AreEnds js (all_ends ps)) (sym jobs_are) (all_end (all_ends ps) ps 0 [] refl refl))
-        (subst (λ (F : List Action). AreClear F (came (all_ends ps))) (sym (append-nil E)) (subst (λ (F : List Action). AreClear E F) (sym (all_came ps)) clear))
+        (subst (λ (F : List Action). AreClear F (end_results (all_ends ps))) (sym (append-nil E)) (subst (λ (F : List Action). AreClear E F) (sym (all_came ps)) clear))
 
     count_of : (rs : List Report) → All (λ r. r.compiled ≡ count_by is_finish run.board.history) rs → (r : Report) → Contains rs r → r.compiled ≡ count_by is_finish run.board.history
     count_of [] h r c = absurd (none_in_empty r c)
@@ -258,8 +258,8 @@ module _ (edition : Edition) (took : List Took) where
       | inr l ↦ count_of rs (All-tail (λ (z : Report). z.compiled ≡ count_by is_finish run.board.history) x rs h) r l
     ]
 
-    pub run_says : map rows_of reports ≡ map report_of (builds_of ps)
-    run_says = all_told (all_ends ps) (result_at run.board) comes.told (λ j a r e. comes.compiled j a r e) ps 0 [] refl refl (map rows_of reports) run.told
+    pub run_says : map report_rows reports ≡ map report_of (builds_of ps)
+    run_says = all_told (all_ends ps) (result_at run.board) comes.told (λ j a r e. comes.compiled j a r e) ps 0 [] refl refl (map report_rows reports) run.told
 
     pub run_counts : (r : Report) → Contains reports r → r.compiled ≡ compiled_count E (all_actions edition (builds_of ps))
     run_counts r c = count_of reports run.counts r c ∙ comes.count ∙ ap (compiled_count E) (all_came ps)

@@ -15,10 +15,10 @@ use Rattle.ws_board.specs.Work.{Job}
 use Rattle.ws_cache.specs.Held.{id_cmp, CacheStandsFor}
 use Rattle.ws_cache.specs.Joined.{lesser}
 use Rattle.ws_cache.proofs.Joined.{empty_stands}
-use Rattle.ws_report.specs.Reports.{Verdict}
+use Rattle.ws_report.specs.Reports.{DirectoryVerdict}
 use Rattle.ws_replica.specs.Builds.{took_at, held_at, held_by, builds, target_of}
 use Rattle.ws_replica.specs.Holdings.{Replica, Took, AllStandFor}
-use Rattle.ws_replica.specs.Jobs.{Place, Reached, place_of, job_after, jobs_after, AreTold, AllTold}
+use Rattle.ws_replica.specs.Jobs.{Place, ReachedDirectory, place_seen, job_after, jobs_after, AreVerdicts, AllAreVerdicts}
 use Rattle.ws_replica.specs.Targets.{IsOpening, HaveCache, TakesInto, TakeResults}
 use Rattle.ws_replica.specs.declared.building.Target.{Target}
 use Rattle.ws_replica.specs.declared.reached.Place.{Place as RustPlace}
@@ -63,12 +63,12 @@ listed_more g done pushed x y left rest whole push next same h =
     ap (λ zs. zs ++ map g rest) push ∙ append_assoc done (x ∷ []) (map g rest) ∙ ap (λ z. done ++ (z ∷ map g rest)) same
     ∙ ap (λ zs. done ++ map g zs) (sym next) ∙ h
 
-pub places_push : (places pushed : List RustPlace) (x : RustPlace) → pushed ≡ places ++ x ∷ [] → map place_of pushed ≡ map place_of places ++ place_of x ∷ []
-places_push places pushed x push = ap (map place_of) push ∙ map-append place_of places (x ∷ [])
+pub places_push : (places pushed : List RustPlace) (x : RustPlace) → pushed ≡ places ++ x ∷ [] → map place_seen pushed ≡ map place_seen places ++ place_seen x ∷ []
+places_push places pushed x push = ap (map place_seen) push ∙ map-append place_seen places (x ∷ [])
 
 -- ---- jobs
 
-pub jobs_next : (jobs more whole : List Job) (rs : List Reached) (rest : List (List Reached)) → more ≡ jobs ++ map (job_after (length jobs)) rs → jobs ++ jobs_after (length jobs) (rs ∷ rest) ≡ whole → more ++ jobs_after (length more) rest ≡ whole
+pub jobs_next : (jobs more whole : List Job) (rs : List ReachedDirectory) (rest : List (List ReachedDirectory)) → more ≡ jobs ++ map (job_after (length jobs)) rs → jobs ++ jobs_after (length jobs) (rs ∷ rest) ≡ whole → more ++ jobs_after (length more) rest ≡ whole
 jobs_next jobs more whole rs rest is h =
     let count : length more ≡ length jobs + length rs = ap length is ∙ length-append jobs (map (job_after (length jobs)) rs) ∙ ap (λ n. length jobs + n) (length-map rs (job_after (length jobs))) in
     ap (λ zs. zs ++ jobs_after (length more) rest) is
@@ -77,14 +77,14 @@ jobs_next jobs more whole rs rest is h =
 
 -- ---- what is told
 
-pub all_told_more : (result : ℕ → Option Action) (n m : ℕ) (places : List Place) (rest all : List (List Place)) (row : List (List ℕ × Verdict)) (rows more : List (List (List ℕ × Verdict))) → m ≡ n + length places → AreTold result n places row → more ≡ rows ++ row ∷ []
-    → ((tail : List (List (List ℕ × Verdict))) → AllTold result n (places ∷ rest) tail → AllTold result 0 all (rows ++ tail)) → (tail : List (List (List ℕ × Verdict))) → AllTold result m rest tail → AllTold result 0 all (more ++ tail)
+pub all_told_more : (result : ℕ → Option Action) (n m : ℕ) (places : List Place) (rest all : List (List Place)) (row : List (List ℕ × DirectoryVerdict)) (rows more : List (List (List ℕ × DirectoryVerdict))) → m ≡ n + length places → AreVerdicts result n places row → more ≡ rows ++ row ∷ []
+    → ((tail : List (List (List ℕ × DirectoryVerdict))) → AllAreVerdicts result n (places ∷ rest) tail → AllAreVerdicts result 0 all (rows ++ tail)) → (tail : List (List (List ℕ × DirectoryVerdict))) → AllAreVerdicts result m rest tail → AllAreVerdicts result 0 all (more ++ tail)
 all_told_more result n m places rest all row rows more next told pushed h tail are =
-    subst (λ zs. AllTold result 0 all zs) (sym (ap (λ zs. zs ++ tail) pushed ∙ append_assoc rows (row ∷ []) tail))
-    (h (row ∷ tail) (told, subst (λ k. AllTold result k rest tail) next are))
+    subst (λ zs. AllAreVerdicts result 0 all zs) (sym (ap (λ zs. zs ++ tail) pushed ∙ append_assoc rows (row ∷ []) tail))
+    (h (row ∷ tail) (told, subst (λ k. AllAreVerdicts result k rest tail) next are))
 
-pub all_told_whole : (result : ℕ → Option Action) (n : ℕ) (rest all : List (List Place)) (rows : List (List (List ℕ × Verdict))) → rest ≡ [] → ((tail : List (List (List ℕ × Verdict))) → AllTold result n rest tail → AllTold result 0 all (rows ++ tail)) → AllTold result 0 all rows
-all_told_whole result n rest all rows e h = subst (λ zs. AllTold result 0 all zs) (append-nil rows) (h [] (subst (λ zs. AllTold result n zs []) (sym e) tt))
+pub all_told_whole : (result : ℕ → Option Action) (n : ℕ) (rest all : List (List Place)) (rows : List (List (List ℕ × DirectoryVerdict))) → rest ≡ [] → ((tail : List (List (List ℕ × DirectoryVerdict))) → AllAreVerdicts result n rest tail → AllAreVerdicts result 0 all (rows ++ tail)) → AllAreVerdicts result 0 all rows
+all_told_whole result n rest all rows e h = subst (λ zs. AllAreVerdicts result 0 all zs) (append-nil rows) (h [] (subst (λ zs. AllAreVerdicts result n zs []) (sym e) tt))
 
 -- ---- the opening
 

@@ -19,7 +19,7 @@ use Rattle.ws_register.specs.Sources.{HasFiles}
 use Rattle.ws_graph.specs.BuildPlan.{IsBuildPlanOf}
 use Rattle.ws_replica.specs.GoodPackages.{AreGoodPackages}
 use Rattle.ws_replica.specs.Programs.{IsPackageOrder}
-use Rattle.ws_replica.specs.Reports.{AreFates, TargetBuild}
+use Rattle.ws_replica.specs.Reports.{AreDirectoryOutcomes, TargetBuild}
 use Rattle.ws_replica.proofs.CheckedPackages.{all_checked, all_edition}
 
 module _ (packages : List Package) (are : AreGoodPackages packages) where
@@ -58,7 +58,7 @@ pub good_ends : (packages : List Package) (ticks : ℕ) → AreGoodPackages pack
 good_ends packages ticks are program = packages_mean packages (packages_checked packages are) (named_main packages program) ticks
 
 -- also where not all that the target reaches is known to be good
-pub always_linked : (edition : Edition) (W : List Write) → HasFiles W → (target : List ℕ) (build : TargetBuild) → IsBuildPlanOf edition W target build.directories → AreFates build.directories build.fates → (packages : List Package) → IsPackageOrder build packages → IsProgram packages → link_refusal (map object_of packages) ≡ None
+pub always_linked : (edition : Edition) (W : List Write) → HasFiles W → (target : List ℕ) (build : TargetBuild) → IsBuildPlanOf edition W target build.directories → AreDirectoryOutcomes build.directories build.fates → (packages : List Package) → IsPackageOrder build packages → IsProgram packages → link_refusal (map object_of packages) ≡ None
 always_linked edition W has target build of are packages order program =
     packages_linked packages (all_checked edition W has target build.directories build.fates of are packages order) (named_main packages program)
     (have_one edition packages (all_edition edition W has target build.directories build.fates of are packages order))

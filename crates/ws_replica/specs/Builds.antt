@@ -11,7 +11,7 @@ use Rattle.ws_cache.specs.Held.{id_cmp, CacheStandsFor}
 use Rattle.ws_graph.specs.declared.planned.PlanError.{PlanError}
 use Rattle.ws_graph.specs.declared.planned.PlanError.TheVariants as plan
 use Rattle.ws_report.specs.declared.Report.{Report}
-use Rattle.ws_report.specs.Reports.{rows}
+use Rattle.ws_report.specs.Reports.{verdict_rows}
 use Rattle.ws_replica.specs.declared.BuildError.{BuildError}
 use Rattle.ws_replica.specs.declared.building.Target.{Target}
 use Rattle.ws_replica.specs.declared.BuildError.TheVariants as build
@@ -57,7 +57,7 @@ StandsAfter targets actions k took replica = ReplicaStandsFor replica took.write
 
 -- each report is its target's, and each count that of the whole build
 pub record AreReports (edition : Edition) (took : List Took) (targets : List (ℕ × List ℕ)) (all : List TargetBuild) (given : List Report) : Type 0 where
-  pub reports : map (λ (r : Report). rows r.directories.items) given ≡ map report_of all
+  pub reports : map (λ (r : Report). verdict_rows r.directories.items) given ≡ map report_of all
   pub counts : (r : Report) → Contains given r → r.compiled ≡ compiled_count (held_by took targets) (all_actions edition all)
 
 -- Where no two texts clash: so it is told, the numbers in the texts of what was compiled fit, and all replicas that build took what they
@@ -69,14 +69,14 @@ pub record AreRight (edition : Edition) (took : List Took) (targets : List (ℕ 
       StandsAfter targets (held_by took targets ++ all_actions edition all) k t replica
 
 -- what becomes of the directories of each target, by the writes that its replica took
-abbrev pub AreBuilds : Edition → List Took → List (ℕ × List ℕ) → List TargetBuild → Type 0
-AreBuilds edition took targets all = AllZip (λ t b. IsTargetBuild edition (took_at took t.0).writes t.1 (Some b)) targets all
+abbrev pub AreBuildsOfTargets : Edition → List Took → List (ℕ × List ℕ) → List TargetBuild → Type 0
+AreBuildsOfTargets edition took targets all = AllZip (λ t b. IsTargetBuild edition (took_at took t.0).writes t.1 (Some b)) targets all
 
 -- What a build that succeeds says of replicas that took this: what becomes of the directories of their writes, and that the reports and the
 -- replicas say so.
 pub record AreBuilt (edition : Edition) (took : List Took) (targets : List (ℕ × List ℕ)) (reports : List Report) (new : List Replica) : Type 0 where
   pub all : List TargetBuild
-  pub are : AreBuilds edition took targets all
+  pub are : AreBuildsOfTargets edition took targets all
   pub right : NoClash (hashed_actions (held_by took targets ++ all_actions edition all)) → AreRight edition took targets all reports new
 
 -- the same, of replicas of which some, by their numbers, hold together all that those of the targets hold
@@ -92,7 +92,7 @@ pub record AreRightFrom (edition : Edition) (took : List Took) (targets : List (
 
 pub record AreBuiltFrom (edition : Edition) (took : List Took) (targets : List (ℕ × List ℕ)) (reports : List Report) (cache : FinMap id_cmp Action) : Type 0 where
   pub all : List TargetBuild
-  pub are : AreBuilds edition took targets all
+  pub are : AreBuildsOfTargets edition took targets all
   pub right : NoClash (hashed_actions (held_by took targets ++ all_actions edition all)) → AreRightFrom edition took targets all reports cache
 
 -- a target without package files

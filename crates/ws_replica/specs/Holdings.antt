@@ -12,7 +12,7 @@ use Rattle.ws_action.specs.Actions.{Action, action_code}
 use Rattle.ws_cache.specs.Held.{id_cmp, CacheStandsFor}
 use Rattle.ws_cache.specs.Joined.{lesser}
 use Rattle.ws_cache.specs.Laws.{id_cmp_total, id_cmp-IsAntisymmetric, lesser-semilattice}
-use Rattle.ws_version_vector.specs.Told.{Brings}
+use Rattle.ws_version_vector.specs.Taken.{Brings}
 use Rattle.ws_version_vector.specs.declared.vector.News.{News}
 
 -- what is held at each path, and what is compiled
@@ -55,22 +55,22 @@ abbrev pub all_taken : List Took → Took
 all_taken took = record { writes = flat_map (λ t. t.writes) took; actions = flat_map (λ t. t.actions) took }
 
 -- what two hold together: part by part
-abbrev pub both : Replica → Replica → Replica
-both a b = record { registers = joined greater_held a.registers b.registers; cache = joined lesser a.cache b.cache }
+abbrev pub replica_join : Replica → Replica → Replica
+replica_join a b = record { registers = joined greater_held a.registers b.registers; cache = joined lesser a.cache b.cache }
 
-pub both-commutative : (a b : Replica) → both a b ≡ both b a
+pub both-commutative : (a b : Replica) → replica_join a b ≡ replica_join b a
 both-commutative a b =
     let registers = joined-commutative path_cmp_total path_cmp-IsAntisymmetric held-semilattice a.registers b.registers in
     let caches = joined-commutative id_cmp_total id_cmp-IsAntisymmetric lesser-semilattice a.cache b.cache in
     λ i. record { registers = registers i; cache = caches i }
 
-pub both-associative : (a b c : Replica) → both (both a b) c ≡ both a (both b c)
+pub both-associative : (a b c : Replica) → replica_join (replica_join a b) c ≡ replica_join a (replica_join b c)
 both-associative a b c =
     let registers = joined-associative path_cmp_total path_cmp-IsAntisymmetric held-semilattice a.registers b.registers c.registers in
     let caches = joined-associative id_cmp_total id_cmp-IsAntisymmetric lesser-semilattice a.cache b.cache c.cache in
     λ i. record { registers = registers i; cache = caches i }
 
-pub both-idempotent : (a : Replica) → both a a ≡ a
+pub both-idempotent : (a : Replica) → replica_join a a ≡ a
 both-idempotent a =
     let registers = joined-idempotent path_cmp_total path_cmp-IsAntisymmetric held-semilattice a.registers in
     let caches = joined-idempotent id_cmp_total id_cmp-IsAntisymmetric lesser-semilattice a.cache in

@@ -11,6 +11,6 @@ abbrev pub IsJoinOf : {J : Type 0} → (J → J → J) → List J → J → Type
 IsJoinOf {J} f all joined = (first : J) (rest : List J) → all ≡ first ∷ rest → joined ≡ joined_from f first rest
 
 -- each becomes what all hold together
-abbrev pub settled : {J : Type 0} → (J → J → J) → List J → List J
-settled f [] = []
-settled f (first ∷ rest) = map (λ _. joined_from f first rest) (first ∷ rest)
+abbrev pub all_joined : {J : Type 0} → (J → J → J) → List J → List J
+all_joined f [] = []
+all_joined f (first ∷ rest) = map (λ _. joined_from f first rest) (first ∷ rest)

@@ -10,21 +10,21 @@ use Rattle.ws_reach.specs.Reach.{Edge, Reaches}
 use Rattle.ws_reach.specs.Reach.{rows_of as rows_of_code}
 use Rattle.ws_report.specs.declared.Report.{Report}
 use Rattle.ws_replica.specs.declared.parts.Part.{Part as RustPart}
-use Rattle.ws_replica.specs.Jobs.{Reached, rows_of, IsRun}
+use Rattle.ws_replica.specs.Jobs.{ReachedDirectory, report_rows, IsRun}
 
 -- a replica's number, and numbers of directories that are reached from it
-pub record Part : Type 0 where
+pub record TargetPart : Type 0 where
   pub replica : ℕ
   pub numbers : List ℕ
 
-abbrev pub part_of : RustPart → Part
-part_of p = record { replica = p.replica; numbers = p.numbers.items }
+abbrev pub target_part : RustPart → TargetPart
+target_part p = record { replica = p.replica; numbers = p.numbers.items }
 
-abbrev pub reached_paths : List Reached → List (List ℕ)
+abbrev pub reached_paths : List ReachedDirectory → List (List ℕ)
 reached_paths reached = map (λ r. r.place.path) reached
 
 -- the numbers that each imports
-abbrev pub reached_rows : List Reached → List (List ℕ)
+abbrev pub reached_rows : List ReachedDirectory → List (List ℕ)
 reached_rows reached = map (λ r. r.imports) reached
 
 -- of what the code keeps
@@ -37,24 +37,24 @@ pub record ArePart (paths rows : List (List ℕ)) (target : List ℕ) (numbers :
   pub are : (k : ℕ) → Contains numbers k ↔ ((n : ℕ) × (slice_get paths n ≡ Some target) × Reaches (Edge rows) n k)
 
 -- the target's part of what is reached from its replica
-pub record IsPartOf (all : List (List Reached)) (target : ℕ × List ℕ) (part : Part) : Type 0 where
-  pub reached : List Reached
+pub record IsPartOf (all : List (List ReachedDirectory)) (target : ℕ × List ℕ) (part : TargetPart) : Type 0 where
+  pub reached : List ReachedDirectory
   pub at : slice_get all target.0 ≡ Some reached
   pub replica : part.replica ≡ target.0
   pub are : ArePart (reached_paths reached) (reached_rows reached) target.1 part.numbers
 
 -- the rows of these numbers of the report on what is reached from the replica
-pub record IsToldPart (told : List Report) (part : Part) (report : Report) : Type 0 where
+pub record IsReportPart (told : List Report) (part : TargetPart) (report : Report) : Type 0 where
   pub whole : Report
   pub at : slice_get told part.replica ≡ Some whole
-  pub rows : rows_of report ≡ filter_map (slice_get (rows_of whole)) part.numbers
+  pub rows : report_rows report ≡ filter_map (slice_get (report_rows whole)) part.numbers
   pub compiled : report.compiled ≡ whole.compiled
 
 -- what a board came to with the jobs of all that is reached, and what was said of each part
-pub record IsRunOf (cache : FinMap id_cmp Action) (all : List (List Reached)) (parts : List Part) (reports : List Report) (added : FinMap id_cmp Action) : Type 0 where
+pub record IsRunOf (cache : FinMap id_cmp Action) (all : List (List ReachedDirectory)) (parts : List TargetPart) (reports : List Report) (added : FinMap id_cmp Action) : Type 0 where
   pub told : List Report
   pub run : IsRun cache all told added
-  pub reports_are : AllZip (IsToldPart told) parts reports
+  pub reports_are : AllZip (IsReportPart told) parts reports
 
 -- each is of one of so many replicas
 abbrev pub AllPartsWithin : ℕ → List RustPart → Type 0

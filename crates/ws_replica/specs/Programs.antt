@@ -11,9 +11,9 @@ use Rattle.ws_version.specs.Writes.{Write}
 use Rattle.ws_register.specs.Sources.{IsSources}
 use Rattle.ws_action.specs.Actions.{Action}
 use Rattle.ws_action.specs.Clash.{NoClash, hashed_actions}
-use Rattle.ws_replica.specs.Reports.{Fate, Good, ArePackages, actions_of, TargetBuild, IsTargetBuild}
+use Rattle.ws_replica.specs.Reports.{DirectoryOutcome, Good, ArePackages, actions_of, TargetBuild, IsTargetBuild}
 
-abbrev pub IsGood : Fate → Type 0
+abbrev pub IsGood : DirectoryOutcome → Type 0
 IsGood fate = (typed : Package) × (fate ≡ Good typed)
 
 -- these are the packages, in the order in which they are initialized

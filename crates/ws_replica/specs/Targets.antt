@@ -14,19 +14,19 @@ use Rattle.ws_cache.specs.Joined.{lesser}
 use Rattle.ws_graph.specs.BuildPlan.{Directory, IsJointPlanFor, SomeHasNoFiles}
 use Rattle.ws_reach.specs.Reach.{EdgesStayWithin}
 use Rattle.ws_replica.specs.Holdings.{Replica, Took, AllStandFor}
-use Rattle.ws_replica.specs.Jobs.{Reached, reached_by}
+use Rattle.ws_replica.specs.Jobs.{ReachedDirectory, reached_by}
 use Rattle.ws_replica.specs.Parts.{reached_paths, reached_rows}
 use Rattle.ws_replica.specs.Builds.{held_at, held_by, builds, HoldAll}
 
 -- what is reached of some directories, from the sources of these registers, which are of files
-pub record IsReachedBy (edition : Edition) (registers : Contents) (targets : List (List ℕ)) (reached : List Reached) : Type 0 where
+pub record IsReachedBy (edition : Edition) (registers : Contents) (targets : List (List ℕ)) (reached : List ReachedDirectory) : Type 0 where
   pub directories : List Directory
   pub planned : IsJointPlanFor edition registers targets directories
   pub files : (W : List Write) → StandsFor held_cmp registers W → HasFiles W
   pub same : reached ≡ map (reached_by edition) directories
 
 -- the same of the replica of that number
-pub record IsReachedAt (edition : Edition) (replicas : List Replica) (k : ℕ) (targets : List (List ℕ)) (reached : List Reached) : Type 0 where
+pub record IsReachedAt (edition : Edition) (replicas : List Replica) (k : ℕ) (targets : List (List ℕ)) (reached : List ReachedDirectory) : Type 0 where
   pub replica : Replica
   pub at : slice_get replicas k ≡ Some replica
   pub by : IsReachedBy edition replica.registers targets reached
@@ -42,26 +42,26 @@ abbrev pub directories_at : List (ℕ × List ℕ) → ℕ → List (List ℕ)
 directories_at targets k = map (λ t. t.1) (filter (λ t. t.0 == k) targets)
 
 -- what is reached of the targets of the replica of that number
-abbrev pub IsReached : Edition → List Replica → List (ℕ × List ℕ) → ℕ → List Reached → Type 0
+abbrev pub IsReached : Edition → List Replica → List (ℕ × List ℕ) → ℕ → List ReachedDirectory → Type 0
 IsReached edition replicas targets k reached = IsReachedAt edition replicas k (directories_at targets k) reached
 
 -- the same of the first replicas
-abbrev pub AreReachedOf : Edition → List Replica → List (ℕ × List ℕ) → List (List Reached) → Type 0
+abbrev pub AreReachedOf : Edition → List Replica → List (ℕ × List ℕ) → List (List ReachedDirectory) → Type 0
 AreReachedOf edition replicas targets all =
-    (k : ℕ) (reached : List Reached) → slice_get all k ≡ Some reached → IsReached edition replicas targets k reached
+    (k : ℕ) (reached : List ReachedDirectory) → slice_get all k ≡ Some reached → IsReached edition replicas targets k reached
 
 -- the same of each replica
-pub record AreReached (edition : Edition) (replicas : List Replica) (targets : List (ℕ × List ℕ)) (all : List (List Reached)) : Type 0 where
+pub record AreReached (edition : Edition) (replicas : List Replica) (targets : List (ℕ × List ℕ)) (all : List (List ReachedDirectory)) : Type 0 where
   pub size : length all ≡ length replicas
   pub are : AreReachedOf edition replicas targets all
 
 -- paths ascend, and imports are numbers of the same list
-pub record AreInOrder (reached : List Reached) : Type 0 where
+pub record AreInOrder (reached : List ReachedDirectory) : Type 0 where
   pub ascending : IsStrictlySortedBy path_cmp (reached_paths reached)
   pub within : EdgesStayWithin (reached_rows reached)
 
-abbrev pub AllInOrder : List (List Reached) → Type 0
-AllInOrder all = (k : ℕ) (reached : List Reached) → slice_get all k ≡ Some reached → AreInOrder reached
+abbrev pub AllInOrder : List (List ReachedDirectory) → Type 0
+AllInOrder all = (k : ℕ) (reached : List ReachedDirectory) → slice_get all k ≡ Some reached → AreInOrder reached
 
 -- the cache stands for all that the replicas of these numbers hold
 abbrev pub IsOpening : List Replica → List ℕ → FinMap id_cmp Action → Type 0

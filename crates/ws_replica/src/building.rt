@@ -1,15 +1,15 @@
 //! Builds of several targets.
 ghost use Rattle.std.specs.Prelude.{◌≡◌, ◌<◌, ◌+◌, ◌++◌, List, length, map, IfOk, OnOk, OnErr, Err, All};
 ghost use Rattle.ws_replica.specs.Holdings.{Took, AllStandFor};
-ghost use Rattle.ws_replica.specs.Jobs.{place_of, reached_of, all_reached_of, all_places_of, job_after, jobs_after};
-ghost use Rattle.ws_replica.specs.Parts.{part_of, AllPartsWithin, IsRunOf};
+ghost use Rattle.ws_replica.specs.Jobs.{place_seen, reached_of, all_reached_of, all_places_of, job_after, jobs_after};
+ghost use Rattle.ws_replica.specs.Parts.{target_part, AllPartsWithin, IsRunOf};
 ghost use Rattle.ws_replica.specs.Builds.{target_of, AreBuilt, AreBuiltOver, LacksPackage, AllTookSized};
 
-use crate::acted::{all_acted, remember_all};
-use crate::openings::{all_planned, give_results, numbers_of, opening_of};
+use crate::actions::{actions_of_plans, remember_all};
 use crate::parts::{Part, all_parts};
 use crate::reached::{Place, Reached};
-use crate::telling::{number_after, part_reports, reports};
+use crate::reporting::{number_after, part_reports, reports};
+use crate::starts::{all_planned, give_results, numbers_of, opening_of};
 use crate::{BuildError, Replica};
 use go_text::edition::Edition;
 use std::alloc::{AllocError, Global};
@@ -48,7 +48,7 @@ pub(crate) fn add_jobs(
     reached: Vec<Reached>,
     jobs: &mut Vec<Job>,
 ) -> Result<Vec<Place>, AllocError>
-    ensures places { IfOk result (λ places. map place_of places.items ≡ map (λ r. r.place) (map reached_of reached.items)) }
+    ensures places { IfOk result (λ places. map place_seen places.items ≡ map (λ r. r.place) (map reached_of reached.items)) }
     ensures jobs { OnOk result (jobs.new.items ≡ jobs.old.items ++ map (job_after (length jobs.old.items)) (map reached_of reached.items)) }
 {
     let before = jobs.len();
@@ -95,11 +95,11 @@ pub(crate) fn run<R: Threads + Wait + Sync, G: Gate>(
 ) -> Result<(Vec<Report>, Cache), AllocError>
     requires some { 0 < workers }
     requires within { AllPartsWithin (length all.items) parts.now }
-    ensures { IfOk result (λ run. IsRunOf opening (all_reached_of all.items) (map part_of parts.now) run.0.items run.1) }
+    ensures { IfOk result (λ run. IsRunOf opening (all_reached_of all.items) (map target_part parts.now) run.0.items run.1) }
 {
     let (places, jobs) = parted(alloc, all)?;
     let built = build_jobs(rt, alloc, jobs, opening, workers, gate)?;
-    *acted = all_acted(alloc, &built, places.as_slice())?;
+    *acted = actions_of_plans(alloc, &built, places.as_slice())?;
     let told = reports(alloc, &built, places)?;
     let reports = part_reports(alloc, told.as_slice(), parts)?;
     Ok((reports, built.into_added()))

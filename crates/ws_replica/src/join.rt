@@ -5,8 +5,8 @@ ghost use Rattle.std.specs.Bool.{nat_le};
 ghost use Rattle.std.specs.List.{list_any};
 ghost use Rattle.std.specs.Thread.{IsSync, IsSend};
 ghost use Rattle.ws_register.specs.Edits.{greatest_counter};
-ghost use Rattle.ws_replica.specs.Holdings.{both, Took, AllStandFor, all_taken};
-ghost use Rattle.ws_replica.specs.Joins.{joined_from, IsJoinOf, settled};
+ghost use Rattle.ws_replica.specs.Holdings.{replica_join, Took, AllStandFor, all_taken};
+ghost use Rattle.ws_replica.specs.Joins.{joined_from, IsJoinOf, all_joined};
 
 use crate::Replica;
 use std::alloc::{AllocError, Global};
@@ -107,7 +107,7 @@ fn settle_all<R: Threads + Sync, J: Join + Drop>(
     all: &mut [J],
     side_by_side: bool,
 ) -> Result<(), AllocError>
-    ensures ok { OnOk result (all.new ≡ settled J.joined all.old) }
+    ensures ok { OnOk result (all.new ≡ all_joined J.joined all.old) }
     ensures err { OnErr result (all.new ≡ all.old) }
 {
     if all.is_empty() {
@@ -135,7 +135,7 @@ pub fn settle<R: Threads + Sync>(
     alloc: Global,
     replicas: &mut [Replica],
 ) -> Result<(), AllocError>
-    ensures ok { OnOk result (replicas.new ≡ settled both replicas.old) }
+    ensures ok { OnOk result (replicas.new ≡ all_joined replica_join replicas.old) }
     ensures err { OnErr result (replicas.new ≡ replicas.old) }
     ensures stands { OnOk result ((took : List Took) → AllStandFor replicas.old took → AllStandFor replicas.new (map (λ _. all_taken took) took)) }
 {

@@ -8,7 +8,7 @@ ghost use Rattle.ws_map.specs.Kept.{SameMembers};
 ghost use Rattle.ws_version.specs.Writes.{Write as AWrite, held_cmp};
 ghost use Rattle.ws_map.specs.Kept.{StandsAt, StandsFor, joined};
 ghost use Rattle.ws_register.specs.Edits.{top, greatest_at, edit_refusal, removal_refusal, IsRefusal, edited, removed};
-ghost use Rattle.ws_register.specs.Sources.{HasFiles, IsShown, IsSources};
+ghost use Rattle.ws_register.specs.Sources.{HasFiles, AreGreatestWrites, IsSources};
 ghost use Rattle.ws_register.specs.Texted.{texted};
 ghost use Rattle.go_code.specs.Images.{Image as AnImage};
 ghost use Rattle.go_text.specs.declared.edition.Edition.{Edition as AnEdition};
@@ -21,10 +21,10 @@ ghost use Rattle.ws_action.specs.Actions.{Action as AnAction, MakeAction, action
 ghost use Rattle.ws_action.specs.Clash.{NoClash, hashed_actions};
 ghost use Rattle.ws_cache.specs.Held.{CacheStandsFor};
 ghost use Rattle.ws_graph.specs.BuildPlan.{Directory, SomeHasNoFiles};
-ghost use Rattle.ws_graph.specs.Discovery.{texts};
+ghost use Rattle.ws_graph.specs.Discovery.{string_texts};
 ghost use Rattle.ws_cache.specs.Joined.{lesser};
 ghost use Rattle.ws_pool.specs.Unshown.{IsUnshown};
-ghost use Rattle.ws_replica.specs.Holdings.{Replica as AReplica, ReplicaStandsFor, both};
+ghost use Rattle.ws_replica.specs.Holdings.{Replica as AReplica, ReplicaStandsFor, replica_join};
 ghost use Rattle.ws_replica.specs.declared.BuildError.TheVariants.{Memory};
 ghost use Rattle.ws_replica.specs.Reports.{TargetBuild, IsTargetBuild, IsReady, Good, actions_of};
 ghost use Rattle.ws_replica.specs.Programs.{IsHeldProgram, IsImage};
@@ -32,20 +32,20 @@ ghost use Rattle.ws_replica.specs.Builds.{refusal_of};
 ghost use Rattle.ws_replica.specs.Jobs.{reached_of};
 ghost use Rattle.ws_replica.specs.Plans.{IsKeptPlan};
 ghost use Rattle.ws_replica.specs.Targets.{IsReachedBy};
-ghost use Rattle.ws_version_vector.specs.Told.{Brings};
+ghost use Rattle.ws_version_vector.specs.Taken.{Brings};
 ghost use Rattle.ws_register.specs.News.{HasNewsAt};
 
 pub use building::{Target, build, build_over};
 use go_text::edition::Edition;
 use go_text::source::Source;
 use go_text::text::Text;
+pub use id_lines::ids;
 pub use linking::image;
-pub use openings::numbers_of;
-use past::Past;
 use plan::{Plan, kept_or_planned};
+use previous::PreviousBuild;
 use reached::{Reached, all_reached};
 pub use snapshot::{Snapshot, build_from};
-pub use standings::ids;
+pub use starts::numbers_of;
 use std::alloc::{AllocError, Global};
 use std::marker::Model;
 use std::sync::Arc;
@@ -60,21 +60,21 @@ use ws_register::{EditError, Registers};
 use ws_version::{Held, Join, Write};
 use ws_version_vector::News;
 
-mod acted;
+mod actions;
 mod building;
+mod id_lines;
 pub mod join;
 pub mod law;
 mod linking;
-mod opened;
-mod openings;
 mod parts;
-mod past;
 mod plan;
+mod previous;
 mod reached;
+mod reporting;
 mod sharing;
 mod snapshot;
-mod standings;
-mod telling;
+mod starts;
+mod stopped;
 
 /// Why there is no report.
 #[derive(Debug, Drop, Error)]
@@ -113,7 +113,7 @@ pub struct Replica {
     registers: Registers,
     cache: Cache,
     plan: Option<Plan>,
-    past: Option<Past>,
+    past: Option<PreviousBuild>,
 }
 
 impl Model for Replica {
@@ -156,13 +156,13 @@ impl Replica {
     }
 
     /// What the next plan may take of the last one.
-    pub(crate) fn past(&self) -> Option<&Past> {
+    pub(crate) fn past(&self) -> Option<&PreviousBuild> {
         self.past.as_ref()
     }
 
     /// The plan that is kept, if it is of that edition and of these targets.
     pub(crate) fn plan_of(&self, edition: Edition, targets: &[String]) -> Option<&Plan>
-        ensures { IfSome result (λ plan. IsKeptPlan edition self.now.registers (texts targets.now) plan.now) }
+        ensures { IfSome result (λ plan. IsKeptPlan edition self.now.registers (string_texts targets.now) plan.now) }
     {
         let plan = self.plan.as_ref()?;
         if plan.is_of(edition, targets) {
@@ -181,8 +181,8 @@ impl Replica {
         edition: Edition,
     ) -> Result<Vec<Reached>, BuildError>
         ensures same { self.new ≡ self.old }
-        ensures ok { IfOk result (λ reached. IsReachedBy edition self.old.registers (texts targets.items) (map reached_of reached.items)) }
-        ensures none { result ≡ Err BuildError.NoPackage → (W : List AWrite) → StandsFor held_cmp self.old.registers W → SomeHasNoFiles edition W (texts targets.items) }
+        ensures ok { IfOk result (λ reached. IsReachedBy edition self.old.registers (string_texts targets.items) (map reached_of reached.items)) }
+        ensures none { result ≡ Err BuildError.NoPackage → (W : List AWrite) → StandsFor held_cmp self.old.registers W → SomeHasNoFiles edition W (string_texts targets.items) }
     {
         let kept = self.plan.take();
         let plan = kept_or_planned(
@@ -209,7 +209,7 @@ impl Replica {
         ensures { self.new ≡ self.old }
     {
         let past = self.past.take();
-        self.past = past::with_actions(past, actions);
+        self.past = previous::with_actions(past, actions);
     }
 
     pub(crate) fn put_cache(&mut self, cache: Cache)
@@ -281,7 +281,7 @@ impl Replica {
 
     /// Copies of the held writes, removals too, in path order. An `Err` is for want of memory.
     pub fn writes(&self) -> Result<Vec<Write>, AllocError>
-        ensures { IfOk result (λ held. (writes : List AWrite) (actions : List AnAction) → ReplicaStandsFor self.now writes actions → IsShown writes held.items) }
+        ensures { IfOk result (λ held. (writes : List AWrite) (actions : List AnAction) → ReplicaStandsFor self.now writes actions → AreGreatestWrites writes held.items) }
     {
         let writes = self.registers.writes()?;
         Ok(writes)
@@ -359,9 +359,9 @@ impl Replica {
 }
 
 impl Join for Replica {
-    ghost use Rattle.ws_replica.specs.Holdings.{both, both-commutative, both-associative, both-idempotent};
+    ghost use Rattle.ws_replica.specs.Holdings.{replica_join, both-commutative, both-associative, both-idempotent};
 
-    ghost joined = { both };
+    ghost joined = { replica_join };
 
     ghost commutative = { both-commutative };
 
@@ -372,7 +372,7 @@ impl Join for Replica {
     fn copy(&self) -> Result<Replica, AllocError> {
         let registers = self.registers.copy()?;
         let cache = self.cache.copy()?;
-        let past = past::copied(self.past.as_ref())?;
+        let past = previous::copied(self.past.as_ref())?;
         Ok(Replica {
             registers,
             cache,
@@ -382,7 +382,7 @@ impl Join for Replica {
     }
 
     fn merge(&mut self, other: &Replica) -> Result<(), AllocError>
-        ensures ok { OnOk result (self.new ≡ both self.old other.now) }
+        ensures ok { OnOk result (self.new ≡ replica_join self.old other.now) }
         ensures err { OnErr result (self.new ≡ self.old) }
         ensures stands { OnOk result ((V W : List AWrite) (E F : List AnAction) → ReplicaStandsFor self.old V E → ReplicaStandsFor other.now W F → ReplicaStandsFor self.new (V ++ W) (E ++ F)) }
     {

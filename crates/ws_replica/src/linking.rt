@@ -7,13 +7,13 @@ ghost use Rattle.ws_action.specs.Actions.{Action as AnAction};
 ghost use Rattle.ws_action.specs.Clash.{AllSized};
 ghost use Rattle.ws_reach.specs.Reach.{rows_of};
 ghost use Rattle.ws_replica.specs.Holdings.{ReplicaStandsFor};
-ghost use Rattle.ws_replica.specs.Opened.{IsObjectAt, LacksObjectAt, AreObjects, SomeLacks, IsLinkedTo};
+ghost use Rattle.ws_replica.specs.Stopped.{IsObjectAt, LacksObjectAt, AreObjects, SomeLacks, IsLinkedTo};
 ghost use Rattle.ws_replica.specs.Programs.{IsImage};
 ghost use Rattle.ws_replica.specs.Reports.{IsTargetBuild};
 
-use crate::opened::opened;
 use crate::plan::reach_one;
 use crate::reached::import_rows;
+use crate::stopped::stopped_board;
 use crate::{BuildError, Replica};
 use go_code::image::Image;
 use go_code::object::Object;
@@ -101,7 +101,7 @@ pub fn image<R: Threads + Sync>(
     let reached = reach_one(rt, alloc, replica, directory, edition)?;
     let rows = import_rows(alloc, &reached)?;
     let cache = replica.cache.copy()?;
-    let (_, board) = opened(alloc, reached, cache)?;
+    let (_, board) = stopped_board(alloc, reached, cache)?;
     let Some(objects) = objects_held(alloc, &board, rows.len())? else {
         return Ok(None);
     };

@@ -7,7 +7,7 @@ ghost use Rattle.ws_graph.specs.Discovery.{IsNumber};
 ghost use Rattle.ws_reach.specs.Reach.{rows_of};
 ghost use Rattle.ws_replica.specs.Builds.{target_of};
 ghost use Rattle.ws_replica.specs.Jobs.{reached_of, all_reached_of};
-ghost use Rattle.ws_replica.specs.Parts.{part_of, reached_paths, reached_rows, all_rows_of, ArePart, IsPartOf, AllPartsWithin};
+ghost use Rattle.ws_replica.specs.Parts.{target_part, reached_paths, reached_rows, all_rows_of, ArePart, IsPartOf, AllPartsWithin};
 ghost use Rattle.ws_replica.specs.Targets.{AreInOrder, AllInOrder};
 
 use crate::building::Target;
@@ -107,7 +107,7 @@ pub(crate) fn all_parts(
 ) -> Result<Vec<Part>, AllocError>
     requires named { All (λ t. t.replica < length all.now) targets.now }
     requires order { AllInOrder (all_reached_of all.now) }
-    ensures are { IfOk result (λ parts. AllZip (IsPartOf (all_reached_of all.now)) (map target_of targets.now) (map part_of parts.items)) }
+    ensures are { IfOk result (λ parts. AllZip (IsPartOf (all_reached_of all.now)) (map target_of targets.now) (map target_part parts.items)) }
     ensures within { IfOk result (λ parts. AllPartsWithin (length all.now) parts.items) }
 {
     let rows = all_rows(alloc, all)?;

@@ -4,12 +4,12 @@ ghost use Rattle.std.specs.Bool.{OnTrue};
 ghost use Rattle.ws_version.specs.Writes.{Write as AWrite, held_cmp};
 ghost use Rattle.ws_map.specs.Kept.{StandsFor};
 ghost use Rattle.ws_graph.specs.BuildPlan.{SomeHasNoFiles};
-ghost use Rattle.ws_graph.specs.Discovery.{texts};
+ghost use Rattle.ws_graph.specs.Discovery.{string_texts};
 ghost use Rattle.ws_replica.specs.Jobs.{reached_of};
 ghost use Rattle.ws_replica.specs.Plans.{IsKeptPlan, KeepsPlan};
 ghost use Rattle.ws_replica.specs.Targets.{IsReachedBy};
 
-use crate::past::{Past, known_of, past_of};
+use crate::previous::{PreviousBuild, build_of_plan, known_of};
 use crate::reached::{Reached, Shared, all_reached, all_shared};
 use crate::{BuildError, Replica};
 use go_text::edition::Edition;
@@ -34,7 +34,7 @@ impl Plan {
     }
 
     fn has(&self, targets: &[String]) -> bool
-        ensures { OnTrue result (texts self.now.targets.items ≡ texts targets.now) }
+        ensures { OnTrue result (string_texts self.now.targets.items ≡ string_texts targets.now) }
     {
         self.targets.as_slice() == targets
     }
@@ -42,7 +42,7 @@ impl Plan {
     /// Whether it is of that edition and of these targets, in their order.
     pub(crate) fn is_of(&self, edition: Edition, targets: &[String]) -> bool
         ensures edition { OnTrue result (self.now.edition ≡ edition) }
-        ensures targets { OnTrue result (texts self.now.targets.items ≡ texts targets.now) }
+        ensures targets { OnTrue result (string_texts self.now.targets.items ≡ string_texts targets.now) }
     {
         self.is_in(edition) && self.has(targets)
     }
@@ -53,12 +53,12 @@ pub(crate) fn planned(
     rt: &(impl Threads + Sync),
     alloc: Global,
     registers: &Registers,
-    past: Option<&Past>,
+    past: Option<&PreviousBuild>,
     targets: Vec<String>,
     edition: Edition,
 ) -> Result<Plan, BuildError>
-    ensures ok { IfOk result (λ plan. IsKeptPlan edition registers.now (texts targets.items) plan) }
-    ensures none { result ≡ Err BuildError.NoPackage → (W : List AWrite) → StandsFor held_cmp registers.now W → SomeHasNoFiles edition W (texts targets.items) }
+    ensures ok { IfOk result (λ plan. IsKeptPlan edition registers.now (string_texts targets.items) plan) }
+    ensures none { result ≡ Err BuildError.NoPackage → (W : List AWrite) → StandsFor held_cmp registers.now W → SomeHasNoFiles edition W (string_texts targets.items) }
 {
     registers.see_files();
     let known = known_of(alloc, past)?;
@@ -79,7 +79,7 @@ pub(crate) fn planned(
 }
 
 fn only(alloc: Global, text: &str) -> Result<Vec<String>, AllocError>
-    ensures { IfOk result (λ only. texts only.items ≡ text.now ∷ []) }
+    ensures { IfOk result (λ only. string_texts only.items ≡ text.now ∷ []) }
 {
     let mut only = Vec::new(alloc);
     only.push(String::from_str(alloc, text)?)?;
@@ -120,7 +120,7 @@ pub(crate) fn reach_one(
 fn fitting(kept: Option<Plan>, edition: Edition, targets: &[String]) -> Option<Plan>
     ensures kept { IfSome result (λ plan. kept ≡ Some plan) }
     ensures edition { IfSome result (λ plan. plan.edition ≡ edition) }
-    ensures fits { IfSome result (λ plan. texts plan.targets.items ≡ texts targets.now) }
+    ensures fits { IfSome result (λ plan. string_texts plan.targets.items ≡ string_texts targets.now) }
 {
     let plan = kept?;
     if plan.is_of(edition, targets) {
@@ -135,15 +135,15 @@ fn planned_anew(
     rt: &(impl Threads + Sync),
     alloc: Global,
     registers: &Registers,
-    past: &mut Option<Past>,
+    past: &mut Option<PreviousBuild>,
     targets: Vec<String>,
     edition: Edition,
 ) -> Result<Plan, BuildError>
-    ensures ok { IfOk result (λ plan. IsKeptPlan edition registers.now (texts targets.items) plan) }
-    ensures none { result ≡ Err BuildError.NoPackage → (W : List AWrite) → StandsFor held_cmp registers.now W → SomeHasNoFiles edition W (texts targets.items) }
+    ensures ok { IfOk result (λ plan. IsKeptPlan edition registers.now (string_texts targets.items) plan) }
+    ensures none { result ≡ Err BuildError.NoPackage → (W : List AWrite) → StandsFor held_cmp registers.now W → SomeHasNoFiles edition W (string_texts targets.items) }
 {
     let plan = planned(rt, alloc, registers, past.as_ref(), targets, edition)?;
-    let files = past_of(alloc, plan.directories.as_slice(), past.as_ref())?;
+    let files = build_of_plan(alloc, plan.directories.as_slice(), past.as_ref())?;
     *past = Some(files);
     Ok(plan)
 }
@@ -153,14 +153,14 @@ pub(crate) fn kept_or_planned(
     rt: &(impl Threads + Sync),
     alloc: Global,
     registers: &Registers,
-    past: &mut Option<Past>,
+    past: &mut Option<PreviousBuild>,
     kept: Option<Plan>,
     targets: Vec<String>,
     edition: Edition,
 ) -> Result<Plan, BuildError>
     requires { KeepsPlan registers.now kept }
-    ensures ok { IfOk result (λ plan. IsKeptPlan edition registers.now (texts targets.items) plan) }
-    ensures none { result ≡ Err BuildError.NoPackage → (W : List AWrite) → StandsFor held_cmp registers.now W → SomeHasNoFiles edition W (texts targets.items) }
+    ensures ok { IfOk result (λ plan. IsKeptPlan edition registers.now (string_texts targets.items) plan) }
+    ensures none { result ≡ Err BuildError.NoPackage → (W : List AWrite) → StandsFor held_cmp registers.now W → SomeHasNoFiles edition W (string_texts targets.items) }
 {
     match fitting(kept, edition, targets.as_slice()) {
         Some(plan) => Ok(plan),

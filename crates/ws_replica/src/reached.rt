@@ -4,7 +4,7 @@ ghost use Rattle.ws_graph.specs.Node.{directory_of};
 ghost use Rattle.ws_reach.specs.Reach.{rows_of};
 ghost use Rattle.ws_replica.specs.Jobs.{shared_of, reached_by, reached_of};
 
-use crate::past::{Past, action_at, shared_files};
+use crate::previous::{PreviousBuild, action_at, shared_files};
 use go_text::edition::Edition;
 use go_text::fault::Fault;
 use std::alloc::{AllocError, Global};
@@ -47,7 +47,11 @@ pub(crate) struct Reached {
 
 /// A directory whose files are shared. They are hashed here, where no lock is held, unless the past
 /// has them.
-fn share(alloc: Global, past: Option<&Past>, directory: Directory) -> Result<Shared, AllocError>
+fn share(
+    alloc: Global,
+    past: Option<&PreviousBuild>,
+    directory: Directory,
+) -> Result<Shared, AllocError>
     ensures { IfOk result (λ shared. shared_of shared ≡ directory_of directory) }
 {
     let Directory {
@@ -71,7 +75,7 @@ fn share(alloc: Global, past: Option<&Past>, directory: Directory) -> Result<Sha
 /// The directories of a plan, of which the files are shared.
 pub(crate) fn all_shared(
     alloc: Global,
-    past: Option<&Past>,
+    past: Option<&PreviousBuild>,
     directories: Vec<Directory>,
 ) -> Result<Vec<Shared>, AllocError>
     ensures { IfOk result (λ all. map shared_of all.items ≡ map directory_of directories.items) }
@@ -88,7 +92,7 @@ pub(crate) fn all_shared(
 fn reached_as(
     alloc: Global,
     edition: Edition,
-    past: Option<&Past>,
+    past: Option<&PreviousBuild>,
     directory: &Shared,
 ) -> Result<Reached, AllocError>
     ensures { IfOk result (λ reached. reached_of reached ≡ reached_by edition (shared_of directory.now)) }
@@ -120,7 +124,7 @@ fn reached_as(
 pub(crate) fn all_reached(
     alloc: Global,
     edition: Edition,
-    past: Option<&Past>,
+    past: Option<&PreviousBuild>,
     directories: &[Shared],
 ) -> Result<Vec<Reached>, AllocError>
     ensures { IfOk result (λ reached. map reached_of reached.items ≡ map (reached_by edition) (map shared_of directories.now)) }

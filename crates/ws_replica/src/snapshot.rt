@@ -4,8 +4,8 @@ ghost use Rattle.ws_replica.specs.Holdings.{Took, AllStandFor};
 ghost use Rattle.ws_replica.specs.Builds.{target_of, AreBuiltFrom, LacksPackage, AllTookSized};
 
 use crate::building::{Target, run};
-use crate::openings::{all_planned, numbers_of, opening_of};
 use crate::parts::all_parts;
+use crate::starts::{all_planned, numbers_of, opening_of};
 use crate::{BuildError, Replica};
 use go_text::edition::Edition;
 use std::alloc::{AllocError, Global};

@@ -37,7 +37,7 @@ pub struct Report {
 
 /// How a directory's action stands among those whose results a replica holds.
 #[derive(Clone, Copy, Debug, PartialEq, Eq, Drop)]
-pub enum Standing {
+pub enum IdStatus {
     /// It has no action, or one of its imports isn't held and good.
     NoId,
     /// No result is held of the action with that id.
@@ -50,5 +50,5 @@ pub enum Standing {
 #[derive(Drop)]
 pub struct IdLine {
     pub directory: String,
-    pub standing: Standing,
+    pub standing: IdStatus,
 }

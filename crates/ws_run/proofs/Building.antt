@@ -6,28 +6,28 @@ use Rattle.std.proofs.lemmas.List.Elements.{Contains-push_cases}
 use Rattle.go_text.specs.declared.edition.Edition.{Edition}
 use Rattle.ws_action.specs.Actions.{Action}
 use Rattle.ws_action.specs.Clash.{NoClash, AllSized, hashed_actions}
-use Rattle.ws_report.specs.Reports.{Verdict, rows}
+use Rattle.ws_report.specs.Reports.{DirectoryVerdict, verdict_rows}
 use Rattle.ws_report.specs.declared.Report.{Report}
-use Rattle.ws_replica.specs.Builds.{AreBuilds, AreBuilt, AreRight, LacksPackage, took_at}
+use Rattle.ws_replica.specs.Builds.{AreBuildsOfTargets, AreBuilt, AreRight, LacksPackage, took_at}
 use Rattle.ws_replica.specs.Holdings.{Replica, ReplicaStandsFor}
 use Rattle.ws_replica.specs.Reports.{TargetBuild, IsTargetBuild, actions_of, all_actions, report_of}
-use Rattle.ws_run.specs.Files.{Files, writes_of, IsBuildOf, IsClearOf, HasFaults, HasNoFiles}
+use Rattle.ws_run.specs.Files.{Files, writes_of, IsBuildOf, IsClearOf, HasFaults, HasNoPackageFiles}
 use Rattle.ws_run.specs.Steps.{all_good, IsLast, took_of, target_at, HoldsProgram}
 use Rattle.ws_run.proofs.Goods.{good_fates, good_rows}
 
 abbrev Rows : Type 0
-Rows = List (List ℕ × Verdict)
+Rows = List (List ℕ × DirectoryVerdict)
 
 abbrev pub rows_in : Report → Rows
-rows_in r = rows r.directories.items
+rows_in r = verdict_rows r.directories.items
 
-sole : (edition : Edition) (files : Files) (directory : List ℕ) (all : List TargetBuild) → AreBuilds edition (took_of files) (target_at directory) all → (build : TargetBuild) × (all ≡ build ∷ []) × IsBuildOf edition files directory build
+sole : (edition : Edition) (files : Files) (directory : List ℕ) (all : List TargetBuild) → AreBuildsOfTargets edition (took_of files) (target_at directory) all → (build : TargetBuild) × (all ≡ build ∷ []) × IsBuildOf edition files directory build
 sole edition files directory [] are = absurd are
 sole edition files directory (b ∷ []) are = (b, refl, are.0)
 sole edition files directory (b ∷ c ∷ bs) are = absurd are.1
 
 -- what lacks package files is the only target
-pub no_files : (edition : Edition) (files : Files) (directory : List ℕ) → LacksPackage edition (took_of files) (target_at directory) → HasNoFiles edition files directory
+pub no_files : (edition : Edition) (files : Files) (directory : List ℕ) → LacksPackage edition (took_of files) (target_at directory) → HasNoPackageFiles edition files directory
 no_files edition files directory (k, d, among, none) = elim (Contains-push_cases {X = ℕ × List ℕ} [] (0, directory) (k, d) among) [
   | inl lost ↦ absurd (omega (arith, lost.1))
   | inr same ↦ subst (λ (t : ℕ × List ℕ). IsTargetBuild edition (took_at (took_of files) t.0).writes t.1 None) (sym same) none

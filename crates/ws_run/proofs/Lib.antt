@@ -1,4 +1,4 @@
-pub mod Building
-pub mod Goods
-pub mod Running
-pub mod Writing
+mod Building
+mod Goods
+mod Running
+mod Writing

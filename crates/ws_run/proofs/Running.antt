@@ -8,7 +8,7 @@ use Rattle.go_code.specs.Finals.{Ends}
 use Rattle.go_code.specs.Images.{Image}
 use Rattle.go_code.specs.Machine.{MachineMeaning}
 use Rattle.go_translation_laws.specs.Programs.{MeansTheSame}
-use Rattle.go_vm.specs.Outcomes.{Outcome}
+use Rattle.go_vm.specs.Outcomes.{ProgramOutcome}
 use Rattle.ws_register.specs.Sources.{HasFiles}
 use Rattle.ws_action.specs.Actions.{Action}
 use Rattle.ws_action.specs.Clash.{NoClash, hashed, hashed_actions}
@@ -87,7 +87,7 @@ module _ (edition : Edition) (files : Files) (directory : List ℕ) (image : Ima
     in_order = p.in_order;
   }
 
-  pub runs_as : MeansTheSame p.packages image → (ticks : ℕ) (o : Outcome) → MachineMeaning image ticks (Ends o.ending o.output) → RunsAs edition files directory ticks o
+  pub runs_as : MeansTheSame p.packages image → (ticks : ℕ) (o : ProgramOutcome) → MachineMeaning image ticks (Ends o.ending o.output) → RunsAs edition files directory ticks o
   runs_as same ticks o machine = record {
     build = p.build;
     are = p.are;

@@ -4,15 +4,15 @@ use Rattle.std.specs.List.{All}
 use Rattle.go_text.specs.declared.edition.Edition.{Edition}
 use Rattle.go_typed.specs.Trees.{Package}
 use Rattle.go_meaning.specs.Programs.{IsProgram, SourceMeaning}
-use Rattle.go_vm.specs.Outcomes.{Outcome}
+use Rattle.go_vm.specs.Outcomes.{ProgramOutcome}
 use Rattle.ws_version.specs.Writes.{Write}
 use Rattle.ws_action.specs.Clash.{NoClash, hashed_actions}
-use Rattle.ws_report.specs.Reports.{rows}
+use Rattle.ws_report.specs.Reports.{verdict_rows}
 use Rattle.ws_report.specs.declared.Report.{Report}
 use Rattle.ws_replica.specs.Reports.{TargetBuild, IsTargetBuild, report_of, actions_of}
 use Rattle.ws_replica.specs.Programs.{IsGood, IsPackageOrder}
-use Rattle.ws_run.specs.declared.answer.Answer.{Answer}
-use Rattle.ws_run.specs.declared.answer.Answer.TheVariants.{Ran, Faulty, NoPackage, NoMain}
+use Rattle.ws_run.specs.declared.answer.RunReport.{RunReport}
+use Rattle.ws_run.specs.declared.answer.RunReport.TheVariants.{Ran, Faulty, NoPackage, NoMain}
 
 -- files by path and text
 abbrev pub Files : Type 0
@@ -34,7 +34,7 @@ abbrev pub IsClearOf : Edition → Files → List ℕ → Type 0
 IsClearOf edition files directory = (build : TargetBuild) → IsBuildOf edition files directory build → NoClash (hashed_actions (actions_of edition build))
 
 -- all directories are good, and their packages, in the order in which they are initialized, are a program that ends and prints so
-pub record RunsAs (edition : Edition) (files : Files) (directory : List ℕ) (ticks : ℕ) (o : Outcome) : Type 0 where
+pub record RunsAs (edition : Edition) (files : Files) (directory : List ℕ) (ticks : ℕ) (o : ProgramOutcome) : Type 0 where
   pub build : TargetBuild
   pub are : IsBuildOf edition files directory build
   pub good : All IsGood build.fates
@@ -47,11 +47,11 @@ pub record HasFaults (edition : Edition) (files : Files) (directory : List ℕ) 
   pub build : TargetBuild
   pub are : IsBuildOf edition files directory build
   pub faulty : ¬ (All IsGood build.fates)
-  pub told : rows report.directories.items ≡ report_of build
+  pub told : verdict_rows report.directories.items ≡ report_of build
 
 -- no file of the directory belongs to a package
-abbrev pub HasNoFiles : Edition → Files → List ℕ → Type 0
-HasNoFiles edition files directory = IsTargetBuild edition (writes_of files) directory None
+abbrev pub HasNoPackageFiles : Edition → Files → List ℕ → Type 0
+HasNoPackageFiles edition files directory = IsTargetBuild edition (writes_of files) directory None
 
 -- all directories are good, and their packages are no program
 pub record IsNoProgram (edition : Edition) (files : Files) (directory : List ℕ) : Type 0 where
@@ -60,9 +60,9 @@ pub record IsNoProgram (edition : Edition) (files : Files) (directory : List ℕ
   pub good : All IsGood build.fates
   pub none : (packages : List Package) → IsPackageOrder build packages → ¬ (IsProgram packages)
 
--- what each answer says of the files
-abbrev pub Answers : Edition → Files → List ℕ → ℕ → Answer → Type 0
-Answers edition files directory ticks (Ran o) = RunsAs edition files directory ticks o
-Answers edition files directory ticks (Faulty report) = HasFaults edition files directory report
-Answers edition files directory ticks NoPackage = HasNoFiles edition files directory
-Answers edition files directory ticks NoMain = IsNoProgram edition files directory
+-- what each report says of the files
+abbrev pub AnswerSays : Edition → Files → List ℕ → ℕ → RunReport → Type 0
+AnswerSays edition files directory ticks (Ran o) = RunsAs edition files directory ticks o
+AnswerSays edition files directory ticks (Faulty report) = HasFaults edition files directory report
+AnswerSays edition files directory ticks NoPackage = HasNoPackageFiles edition files directory
+AnswerSays edition files directory ticks NoMain = IsNoProgram edition files directory

@@ -1,3 +1,3 @@
 pub mod Files
+pub mod Printing
 pub mod Steps
-pub mod Told

@@ -6,7 +6,7 @@ use Rattle.go_text.specs.declared.edition.Edition.{Edition}
 use Rattle.go_code.specs.Images.{Image}
 use Rattle.go_typed.specs.Trees.{Package}
 use Rattle.go_translation_laws.specs.Programs.{IsLinked}
-use Rattle.go_vm.specs.Outcomes.{Outcome}
+use Rattle.go_vm.specs.Outcomes.{ProgramOutcome}
 use Rattle.ws_register.specs.Sources.{HasFiles}
 use Rattle.ws_action.specs.Clash.{NoClash, AllSized, hashed_actions}
 use Rattle.ws_report.specs.Reports.{is_good}
@@ -15,9 +15,9 @@ use Rattle.ws_replica.specs.Builds.{AreBuilt, LacksPackage}
 use Rattle.ws_replica.specs.Holdings.{Replica, ReplicaStandsFor, Took}
 use Rattle.ws_replica.specs.Programs.{IsGood, IsPackageOrder}
 use Rattle.ws_replica.specs.Reports.{TargetBuild, actions_of}
-use Rattle.ws_run.specs.declared.answer.Answer.{Answer}
-use Rattle.ws_run.specs.declared.answer.Answer.TheVariants.{NoPackage}
-use Rattle.ws_run.specs.Files.{Files, writes_of, IsBuildOf, IsClearOf, RunsAs, HasNoFiles, IsNoProgram, Answers}
+use Rattle.ws_run.specs.declared.answer.RunReport.{RunReport}
+use Rattle.ws_run.specs.declared.answer.RunReport.TheVariants.{NoPackage}
+use Rattle.ws_run.specs.Files.{Files, writes_of, IsBuildOf, IsClearOf, RunsAs, HasNoPackageFiles, IsNoProgram, AnswerSays}
 
 abbrev pub all_good : Report → Bool
 all_good report = list_all (λ d. is_good d.1) report.directories.items
@@ -62,12 +62,12 @@ abbrev pub HasImage : Edition → Files → List ℕ → Option Image → Type 0
 HasImage edition files directory None = IsNoProgram edition files directory
 HasImage edition files directory (Some image) = IsProgramImage edition files directory image
 
--- what an image of them comes to; none, where there is none
-abbrev pub ComesTo : Edition → Files → List ℕ → ℕ → Option Outcome → Type 0
-ComesTo edition files directory ticks None = IsNoProgram edition files directory
-ComesTo edition files directory ticks (Some o) = RunsAs edition files directory ticks o
+-- how an image of them ends; nothing, if there is none
+abbrev pub ImageEndsAs : Edition → Files → List ℕ → ℕ → Option ProgramOutcome → Type 0
+ImageEndsAs edition files directory ticks None = IsNoProgram edition files directory
+ImageEndsAs edition files directory ticks (Some o) = RunsAs edition files directory ticks o
 
--- an answer says so where no two hashed texts clash; that there are no files, without that
-abbrev pub Told : Edition → Files → List ℕ → ℕ → Answer → Type 0
-Told edition files directory ticks NoPackage = HasNoFiles edition files directory
-Told edition files directory ticks answer = IsClearOf edition files directory → Answers edition files directory ticks answer
+-- what a report says holds if no two hashed texts clash; that there are no package files, also if some do
+abbrev pub IsReportOfRun : Edition → Files → List ℕ → ℕ → RunReport → Type 0
+IsReportOfRun edition files directory ticks NoPackage = HasNoPackageFiles edition files directory
+IsReportOfRun edition files directory ticks answer = IsClearOf edition files directory → AnswerSays edition files directory ticks answer

@@ -1,10 +1,10 @@
-//! What comes of the sources of a program, and how it is told.
+//! Reports of running files, and what is printed of them.
 ghost use Rattle.std.specs.Prelude.{◌≡◌, ◌++◌, IfOk, OnOk};
 ghost use Rattle.std.specs.Fmt.{decimal};
 ghost use Rattle.std.specs.List.{flat_map};
-ghost use Rattle.ws_report.specs.Reports.{row, rows};
-ghost use Rattle.ws_run.specs.Told.{output_of, panic_reason, ending_line, ending_status, folders_of, folder_of, in_folder};
-ghost use Rattle.ws_run.specs.Told.{fault_line, row_line, complaint_of, status_of};
+ghost use Rattle.ws_report.specs.Reports.{row, verdict_rows};
+ghost use Rattle.ws_run.specs.Printing.{output_of, panic_reason, ending_line, ending_status, folders_of, folder_of, in_folder};
+ghost use Rattle.ws_run.specs.Printing.{fault_line, row_line, complaint_of, status_of};
 
 use go_code::ending::{Ending, PanicKind};
 use go_text::fault::Fault;
@@ -12,9 +12,9 @@ use go_vm::run::Outcome;
 use std::alloc::{AllocError, Global};
 use ws_report::{Report, Verdict};
 
-/// What comes of the files of a program.
+/// The report of running files: how the program ended, or why there is none.
 #[derive(Drop)]
-pub enum Answer {
+pub enum RunReport {
     /// It ran: how it ended, and what it printed until then.
     Ran(Outcome),
     /// Directories that it reaches have faults; what a build says of all.
@@ -25,33 +25,33 @@ pub enum Answer {
     NoMain,
 }
 
-/// A directory, and its folder as it is told, which is empty where its files' names stand alone.
+/// A directory, and its folder as reports name it, which is empty where its files are named alone.
 pub type Folder = (String, String);
 
-impl Answer {
+impl RunReport {
     /// What standard output gets: what the program printed.
     pub fn output(&self) -> &[u8]
         ensures { result.now ≡ output_of self.now }
     {
         match self {
-            Answer::Ran(outcome) => outcome.output(),
-            Answer::Faulty(_) | Answer::NoPackage | Answer::NoMain => &[],
+            RunReport::Ran(outcome) => outcome.output(),
+            RunReport::Faulty(_) | RunReport::NoPackage | RunReport::NoMain => &[],
         }
     }
 
-    /// What standard error gets: how the program ended, unless it ended well, or why it didn't run;
-    /// of each directory with a fault a line.
-    pub fn complaint(&self, alloc: Global, folders: &[Folder]) -> Result<Vec<u8>, AllocError>
+    /// What standard error gets: how the program ended, unless it ended well, or why it didn't run,
+    /// with a line for each directory that has a fault.
+    pub fn error_output(&self, alloc: Global, folders: &[Folder]) -> Result<Vec<u8>, AllocError>
         ensures { IfOk result (λ told. told.items ≡ complaint_of (folders_of folders.now) self.now) }
     {
         let mut told = Vec::new(alloc);
         match self {
-            Answer::Ran(outcome) => push_ending(&mut told, outcome.ending())?,
-            Answer::Faulty(report) => {
+            RunReport::Ran(outcome) => push_ending(&mut told, outcome.ending())?,
+            RunReport::Faulty(report) => {
                 push_rows(alloc, &mut told, folders, &report.directories)?;
             }
-            Answer::NoPackage => push(&mut told, NO_PACKAGE)?,
-            Answer::NoMain => push(&mut told, NO_MAIN)?,
+            RunReport::NoPackage => push(&mut told, NO_PACKAGE)?,
+            RunReport::NoMain => push(&mut told, NO_MAIN)?,
         }
         Ok(told)
     }
@@ -62,8 +62,8 @@ impl Answer {
         ensures { result ≡ status_of self.now }
     {
         match self {
-            Answer::Ran(outcome) => ending_status(outcome.ending()),
-            Answer::Faulty(_) | Answer::NoPackage | Answer::NoMain => 1,
+            RunReport::Ran(outcome) => ending_status(outcome.ending()),
+            RunReport::Faulty(_) | RunReport::NoPackage | RunReport::NoMain => 1,
         }
     }
 }
@@ -126,7 +126,7 @@ fn push_ending(told: &mut Vec<u8>, ending: &Ending) -> Result<(), AllocError>
     }
 }
 
-/// The folder of a directory, as it is told: the first that is given, else the directory.
+/// The folder that a directory is reported as: the first that is given, else the directory.
 fn folder_of<'a>(folders: &'a [Folder], directory: &'a str) -> &'a str
     ensures { result.now ≡ folder_of (folders_of folders.now) directory.now }
 {
@@ -195,7 +195,7 @@ fn push_rows(
     folders: &[Folder],
     all: &[(String, Verdict)],
 ) -> Result<(), AllocError>
-    ensures { OnOk result (told.new.items ≡ told.old.items ++ flat_map (row_line (folders_of folders.now)) (rows all.now)) }
+    ensures { OnOk result (told.new.items ≡ told.old.items ++ flat_map (row_line (folders_of folders.now)) (verdict_rows all.now)) }
 {
     for of in all {
         push_row(alloc, told, folders, of)?;

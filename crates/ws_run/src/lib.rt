@@ -1,4 +1,4 @@
-//! What comes of the files of a program, and how that is told.
+//! Programs from files: what becomes of them, and what is printed.
 #![tactic(auto)]
 
 pub mod answer;

@@ -2,13 +2,13 @@
 //! [Program execution](https://go.dev/ref/spec#Program_execution)
 ghost use Rattle.std.specs.Prelude.{◌≡◌, ◌<◌, ℕ, true, false, List, [], length, Ok, IfOk, IfSome, IfNone};
 ghost use Rattle.go_text.specs.declared.edition.Edition.{Edition as AnEdition};
-ghost use Rattle.go_vm.specs.Outcomes.{Outcome as AnOutcome};
+ghost use Rattle.go_vm.specs.Outcomes.{ProgramOutcome as AnOutcome};
 ghost use Rattle.ws_replica.specs.Holdings.{ReplicaStandsFor, AllStandFor};
-ghost use Rattle.ws_run.specs.declared.answer.Answer.TheVariants as answers;
-ghost use Rattle.ws_run.specs.Files.{Files, writes_of, IsClearOf, RunsAs, HasFaults, HasNoFiles, IsNoProgram};
-ghost use Rattle.ws_run.specs.Steps.{all_good, IsLast, took_of, IsBuilt, HoldsProgram, IsProgramImage, HasImage, ComesTo, Told};
+ghost use Rattle.ws_run.specs.declared.answer.RunReport.TheVariants as answers;
+ghost use Rattle.ws_run.specs.Files.{Files, writes_of, IsClearOf, RunsAs, HasFaults, HasNoPackageFiles, IsNoProgram};
+ghost use Rattle.ws_run.specs.Steps.{all_good, IsLast, took_of, IsBuilt, HoldsProgram, IsProgramImage, HasImage, ImageEndsAs, IsReportOfRun};
 
-use crate::answer::Answer;
+use crate::answer::RunReport;
 use go_code::image::Image;
 use go_text::edition::Edition;
 use go_text::text::Text;
@@ -112,7 +112,7 @@ fn image_of<R: Threads + Sync>(
 
 /// What the image of a program does.
 fn ran(alloc: Global, image: &Image, ticks: u64) -> Result<Option<Outcome>, AllocError>
-    ensures { (edition : AnEdition) (files : Files) (directory : List ℕ) → IsProgramImage edition files directory image.now → IfOk result (λ outcome. ComesTo edition files directory ticks outcome) }
+    ensures { (edition : AnEdition) (files : Files) (directory : List ℕ) → IsProgramImage edition files directory image.now → IfOk result (λ outcome. ImageEndsAs edition files directory ticks outcome) }
 {
     law_held_program_means_its_sources();
     match run(alloc, image, ticks) {
@@ -132,7 +132,7 @@ fn ran_in<R: Threads + Sync>(
     directory: &str,
     ticks: u64,
 ) -> Result<Option<Outcome>, AllocError>
-    ensures { (files : Files) → HoldsProgram edition files directory.now replica.now → IfOk result (λ outcome. ComesTo edition files directory.now ticks outcome) }
+    ensures { (files : Files) → HoldsProgram edition files directory.now replica.now → IfOk result (λ outcome. ImageEndsAs edition files directory.now ticks outcome) }
 {
     match image_of(rt, alloc, edition, replica, directory)? {
         Some(image) => ran(alloc, &image, ticks),
@@ -149,9 +149,9 @@ fn answer_of<R: Threads + Wait + Sync>(
     directory: &str,
     ticks: u64,
     workers: u64,
-) -> Result<Answer, AllocError>
+) -> Result<RunReport, AllocError>
     requires { 0 < workers }
-    ensures { IfOk result (λ answer. Told edition files.items directory.now ticks answer) }
+    ensures { IfOk result (λ answer. IsReportOfRun edition files.items directory.now ticks answer) }
 {
     let replica = written(alloc, files)?;
     let mut replicas = Vec::from_array(alloc, [replica])?;
@@ -164,14 +164,14 @@ fn answer_of<R: Threads + Wait + Sync>(
         workers,
     )?
     else {
-        return Ok(Answer::NoPackage);
+        return Ok(RunReport::NoPackage);
     };
     if let Some(report) = faulty(reports) {
-        return Ok(Answer::Faulty(report));
+        return Ok(RunReport::Faulty(report));
     }
     match ran_in(rt, alloc, edition, &replicas[0], directory, ticks)? {
-        Some(outcome) => Ok(Answer::Ran(outcome)),
-        None => Ok(Answer::NoMain),
+        Some(outcome) => Ok(RunReport::Ran(outcome)),
+        None => Ok(RunReport::NoMain),
     }
 }
 
@@ -193,11 +193,11 @@ pub fn run_files<R: Threads + Wait + Sync>(
     directory: &str,
     ticks: u64,
     workers: u64,
-) -> Result<Answer, AllocError>
+) -> Result<RunReport, AllocError>
     requires { 0 < workers }
     ensures means { (o : AnOutcome) → result ≡ Ok (answers.Ran o) → IsClearOf edition files.items directory.now → RunsAs edition files.items directory.now ticks o }
     ensures faulty { (report : Report) → result ≡ Ok (answers.Faulty report) → IsClearOf edition files.items directory.now → HasFaults edition files.items directory.now report }
-    ensures no_package { result ≡ Ok answers.NoPackage → HasNoFiles edition files.items directory.now }
+    ensures no_package { result ≡ Ok answers.NoPackage → HasNoPackageFiles edition files.items directory.now }
     ensures no_main { result ≡ Ok answers.NoMain → IsClearOf edition files.items directory.now → IsNoProgram edition files.items directory.now }
 {
     answer_of(rt, alloc, edition, files, directory, ticks, workers)

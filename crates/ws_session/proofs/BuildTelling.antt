@@ -13,15 +13,15 @@ use Rattle.ws_replica.specs.Builds.{LacksPackage, AreBuilt, AreRight}
 use Rattle.ws_replica.specs.Holdings.{Took, AllStandFor}
 use Rattle.ws_replica.specs.Reports.{TargetBuild, all_actions, report_of}
 use Rattle.ws_report.specs.declared.Report.{Report}
-use Rattle.ws_report.specs.Reports.{rows, Verdict}
-use Rattle.ws_session.specs.declared.replicas.Named.{Named}
+use Rattle.ws_report.specs.Reports.{verdict_rows, DirectoryVerdict}
+use Rattle.ws_session.specs.declared.replicas.SessionReplica.{SessionReplica}
 use Rattle.ws_command.specs.declared.refusal.Refusal.{Refusal}
 use Rattle.ws_command.specs.declared.refusal.Refusal.TheVariants.{Unknown, NoPackage}
 use Rattle.ws_command.specs.Commands.{Build}
 use Rattle.ws_command.specs.Refusals.{first_of, refused}
 use Rattle.ws_command.specs.Printing.{report_text}
 use Rattle.ws_session.specs.World.{World, knows, AreBuilds, held_by, after_builds, target_report, builds_text, refusals, AfterBy, After, PrintsBy, Prints}
-use Rattle.ws_session.specs.Standing.{index_of, AllStand, AreApart, names_in, IsTarget, targets_row, replicas_of, Built, report_line, Tells, AreCompiled, TellsCounted}
+use Rattle.ws_session.specs.Representation.{replica_index, AllRepresent, AreApart, replica_names, IsTarget, targets_row, replicas_of, Built, report_line, CommandResult, AreCompiled, CountedResult}
 use Rattle.ws_session.proofs.Building.{same_held, same_builds, no_builds, held_sized, same_tests, all_share, clear_builds}
 use Rattle.ws_session.proofs.Settled.{took_of, all_stand_for, all_actions as taken_actions, all_sized}
 use Rattle.ws_session.proofs.Settling.{sized_both}
@@ -30,17 +30,17 @@ use Rattle.ws_session.proofs.Telling.{settled_tells, after_by}
 
 -- ---- what is printed
 
-one_line : (count : ℕ) (asked : List ℕ × List ℕ) (r : Report) (b : TargetBuild) → rows r.directories.items ≡ report_of b → r.compiled ≡ count → report_line (asked, r) ≡ target_report count (asked, b)
+one_line : (count : ℕ) (asked : List ℕ × List ℕ) (r : Report) (b : TargetBuild) → verdict_rows r.directories.items ≡ report_of b → r.compiled ≡ count → report_line (asked, r) ≡ target_report count (asked, b)
 one_line count (name, directory) r b same counts =
     ap (λ z. report_text name directory z r.compiled) same ∙ ap (report_text name directory (report_of b)) counts
 
-abbrev told_rows : List Report → List (List (List ℕ × Verdict))
-told_rows reports = map (λ (r : Report). rows r.directories.items) reports
+abbrev told_rows : List Report → List (List (List ℕ × DirectoryVerdict))
+told_rows reports = map (λ (r : Report). verdict_rows r.directories.items) reports
 
-abbrev build_rows : List TargetBuild → List (List (List ℕ × Verdict))
+abbrev build_rows : List TargetBuild → List (List (List ℕ × DirectoryVerdict))
 build_rows all = map report_of all
 
-first_rows : (r : Report) (b : TargetBuild) (reports : List Report) (all : List TargetBuild) → told_rows (r ∷ reports) ≡ build_rows (b ∷ all) → rows r.directories.items ≡ report_of b
+first_rows : (r : Report) (b : TargetBuild) (reports : List Report) (all : List TargetBuild) → told_rows (r ∷ reports) ≡ build_rows (b ∷ all) → verdict_rows r.directories.items ≡ report_of b
 first_rows r b reports all e = cc
 
 later_rows : (r : Report) (b : TargetBuild) (reports : List Report) (all : List TargetBuild) → told_rows (r ∷ reports) ≡ build_rows (b ∷ all) → told_rows reports ≡ build_rows all
@@ -58,16 +58,16 @@ same_text count (a ∷ asked) (r ∷ reports) (b ∷ all) e counts =
 
 -- ---- when a build is refused
 
-all_known : (world : World) (ns : List Named) → AllStand ns world.replicas → (asked : List (List ℕ × List ℕ)) → list_all (λ t. knows t.0 world) asked ≡ list_all (λ t. is_some (index_of t.0 ns)) asked
+all_known : (world : World) (ns : List SessionReplica) → AllRepresent ns world.replicas → (asked : List (List ℕ × List ℕ)) → list_all (λ t. knows t.0 world) asked ≡ list_all (λ t. is_some (replica_index t.0 ns)) asked
 all_known world ns h [] = refl
 all_known world ns h (a ∷ asked) =
-    ap (λ b. b && list_all (λ t. knows t.0 world) asked) (known_index a.0 ns world.replicas h) ∙ ap (λ b. is_some (index_of a.0 ns) && b) (all_known world ns h asked)
+    ap (λ b. b && list_all (λ t. knows t.0 world) asked) (known_index a.0 ns world.replicas h) ∙ ap (λ b. is_some (replica_index a.0 ns) && b) (all_known world ns h asked)
 
-module _ (asked : List (List ℕ × List ℕ)) (text : Option (List ℕ)) (world : World) (ns : List Named) (h : AllStand ns world.replicas) where
+module _ (asked : List (List ℕ × List ℕ)) (text : Option (List ℕ)) (world : World) (ns : List SessionReplica) (h : AllRepresent ns world.replicas) where
   row : first_of (refusals (Build asked) text world) ≡ targets_row ns asked
   row = ap (λ b. cond (not b) (Some Unknown) (cond (not (list_all (λ t. is_utf8 t.1) asked)) (Some NoPackage) None)) (all_known world ns h asked)
 
-  pub build_refused : (refusal : Refusal) (told : List ℕ) (compiled : List (List ℕ)) → targets_row ns asked ≡ Some refusal → told ≡ refused refusal → AreCompiled compiled world → TellsCounted (Build asked) text world told ns compiled
+  pub build_refused : (refusal : Refusal) (told : List ℕ) (compiled : List (List ℕ)) → targets_row ns asked ≡ Some refusal → told ≡ refused refusal → AreCompiled compiled world → CountedResult (Build asked) text world told ns compiled
   build_refused refusal told compiled e t kept =
       let tells = settled_tells (Build asked) text world (Some refusal) told ns (λ _ q. q) t (record { refuses = row ∙ e; next = world; after = refl; edition = refl; stand = h }) in
       record {
@@ -77,12 +77,12 @@ module _ (asked : List (List ℕ × List ℕ)) (text : Option (List ℕ)) (world
 
   module _ (targets : List (ℕ × List ℕ)) (allowed : targets_row ns asked ≡ None) (are : AllZip (IsTarget ns) asked targets) where
     pub build_lacks : (edition : Edition) (told : List ℕ) (compiled : List (List ℕ)) → edition ≡ world.edition → told ≡ refused NoPackage
-        → ((took : List Took) → AllStandFor (replicas_of ns) took → LacksPackage edition took targets) → AreCompiled compiled world → TellsCounted (Build asked) text world told ns compiled
+        → ((took : List Took) → AllStandFor (replicas_of ns) took → LacksPackage edition took targets) → AreCompiled compiled world → CountedResult (Build asked) text world told ns compiled
     unfolding After Prints
     build_lacks edition told compiled same t lacks kept =
         let none : AreBuilds world asked None =
         no_builds world ns h asked targets are (subst (λ n. LacksPackage n (took_of world.replicas) targets) same (lacks (took_of world.replicas) (all_stand_for ns world.replicas h))) in
-        let tells : Tells (Build asked) text world told ns = record {
+        let tells : CommandResult (Build asked) text world told ns = record {
           next = world;
           after = subst (λ z. AfterBy z (Build asked) text world world) (sym (row ∙ allowed)) (None, none, refl);
           edition = refl;
@@ -90,8 +90,8 @@ module _ (asked : List (List ℕ × List ℕ)) (text : Option (List ℕ)) (world
         } in
         record { tells = tells; counted = kept }
 
-    pub build_told : AreApart (names_in world) → (holders : List ℕ) → numbered.HoldAll (took_of world.replicas) holders targets → (edition : Edition) (reports : List Report) (told : List ℕ) (ms : List Named) (compiled : List (List ℕ)) → edition ≡ world.edition
-        → told ≡ flat_map report_line (zip asked reports) → Built edition holders targets reports ns ms → ((all : List TargetBuild) → AreCompiled compiled (after_builds world asked (Some all))) → TellsCounted (Build asked) text world told ms compiled
+    pub build_told : AreApart (replica_names world) → (holders : List ℕ) → numbered.HoldAll (took_of world.replicas) holders targets → (edition : Edition) (reports : List Report) (told : List ℕ) (ms : List SessionReplica) (compiled : List (List ℕ)) → edition ≡ world.edition
+        → told ≡ flat_map report_line (zip asked reports) → Built edition holders targets reports ns ms → ((all : List TargetBuild) → AreCompiled compiled (after_builds world asked (Some all))) → CountedResult (Build asked) text world told ms compiled
     unfolding After Prints
     build_told apart holders hold edition reports told ms compiled same t built kept =
         let took : List Took = took_of world.replicas in
@@ -100,7 +100,7 @@ module _ (asked : List (List ℕ × List ℕ)) (text : Option (List ℕ)) (world
         let builds : AreBuilds world asked (Some b.all) = same_builds world ns h asked targets b.all are b.are in
         let held = same_held world ns h asked targets are in
         let next : World = after_builds world asked (Some b.all) in
-        let tells : Tells (Build asked) text world told ms = record {
+        let tells : CommandResult (Build asked) text world told ms = record {
           next = next;
           after = subst (λ z. AfterBy z (Build asked) text world next) (sym (row ∙ allowed)) (Some b.all, builds, refl);
           edition = refl;

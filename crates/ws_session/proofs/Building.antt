@@ -18,9 +18,9 @@ use Rattle.ws_replica.specs.Holdings as holdings
 use Rattle.ws_replica.specs.Reports.{TargetBuild, IsTargetBuild, all_actions}
 use Rattle.ws_replica.specs.declared.building.Target.{Target}
 use Rattle.ws_replica.proofs.Numbered.{some_same}
-use Rattle.ws_session.specs.declared.replicas.Named.{Named}
-use Rattle.ws_session.specs.World.{World, Replica, replica_at, or_new, writes_of, actions_held, grown, with_replicas, AreBuilds, held_by, sharing, after_builds, hashed, texts_of_replica}
-use Rattle.ws_session.specs.Standing.{index_of, Stands, AllStand, AreApart, names_in, IsTarget, labels_of, replicas_of, words_of}
+use Rattle.ws_session.specs.declared.replicas.SessionReplica.{SessionReplica}
+use Rattle.ws_session.specs.World.{World, ReplicaModel, replica_at, or_new, writes_of, actions_held, grown_by, with_replicas, AreBuilds, held_by, sharing, after_builds, hashed_texts, texts_of_replica}
+use Rattle.ws_session.specs.Representation.{replica_index, RepresentsReplica, AllRepresent, AreApart, replica_names, IsTarget, labels_of, replicas_of, target_words}
 use Rattle.ws_session.proofs.Names.{one_number}
 use Rattle.ws_session.proofs.RunTelling.{held_among}
 use Rattle.ws_session.proofs.Settled.{took_by, took_of, first_label, later_labels}
@@ -31,79 +31,79 @@ use Rattle.ws_session.proofs.Tested.{none_sized}
 
 -- ---- what a name reads, and what its number
 
-abbrev ReadAt : List ℕ → List Replica → Option ℕ → Type 0
+abbrev ReadAt : List ℕ → List ReplicaModel → Option ℕ → Type 0
 ReadAt name rs None = replica_at name rs ≡ None
 ReadAt name rs (Some k) = slice_get rs k ≡ replica_at name rs
 
-read_by : (name : List ℕ) (r : Replica) (rs : List Replica) (b : Bool) → bytes_eq r.name name ≡ b → (o : Option ℕ) → ReadAt name rs o → ReadAt name (r ∷ rs) (cond b (Some 0) (option_map (λ k. suc k) o))
+read_by : (name : List ℕ) (r : ReplicaModel) (rs : List ReplicaModel) (b : Bool) → bytes_eq r.name name ≡ b → (o : Option ℕ) → ReadAt name rs o → ReadAt name (r ∷ rs) (cond b (Some 0) (option_map (λ k. suc k) o))
 read_by name r rs true e o f = sym (ap (λ b. cond b (Some r) (replica_at name rs)) e)
 read_by name r rs false e None f = ap (λ b. cond b (Some r) (replica_at name rs)) e ∙ f
 read_by name r rs false e (Some k) f = f ∙ sym (ap (λ b. cond b (Some r) (replica_at name rs)) e)
 
-read_at : (name : List ℕ) (ns : List Named) (rs : List Replica) → AllStand ns rs → ReadAt name rs (index_of name ns)
+read_at : (name : List ℕ) (ns : List SessionReplica) (rs : List ReplicaModel) → AllRepresent ns rs → ReadAt name rs (replica_index name ns)
 read_at name [] [] h = refl
 read_at name [] (r ∷ rs) h = absurd h
 read_at name (n ∷ ns) [] h = absurd h
-read_at name (n ∷ ns) (r ∷ rs) h = read_by name r rs (bytes_eq n.name.items name) (ap (λ z. bytes_eq z name) (sym h.0.name)) (index_of name ns) (read_at name ns rs h.1)
+read_at name (n ∷ ns) (r ∷ rs) h = read_by name r rs (bytes_eq n.name.items name) (ap (λ z. bytes_eq z name) (sym h.0.name)) (replica_index name ns) (read_at name ns rs h.1)
 
 -- the first index of a name reads what the name reads
-pub same_read : (name : List ℕ) (k : ℕ) (ns : List Named) (rs : List Replica) → AllStand ns rs → index_of name ns ≡ Some k → slice_get rs k ≡ replica_at name rs
+pub same_read : (name : List ℕ) (k : ℕ) (ns : List SessionReplica) (rs : List ReplicaModel) → AllRepresent ns rs → replica_index name ns ≡ Some k → slice_get rs k ≡ replica_at name rs
 same_read name k ns rs h e = subst (ReadAt name rs) e (read_at name ns rs h)
 
-pub took_read : (rs : List Replica) (k : ℕ) → took_at (took_of rs) k ≡ took_by (or_new (slice_get rs k))
+pub took_read : (rs : List ReplicaModel) (k : ℕ) → took_at (took_of rs) k ≡ took_by (or_new (slice_get rs k))
 took_read [] k = refl
 took_read (r ∷ rs) zero = refl
 took_read (r ∷ rs) (suc k) = took_read rs k
 
 -- ---- the numbers of names
 
-within_by : (name : List ℕ) (n : Named) (ns : List Named) (b : Bool) (o : Option ℕ) → ((k : ℕ) → o ≡ Some k → k < length ns) → (k : ℕ) → cond b (Some 0) (option_map (λ j. suc j) o) ≡ Some k → k < length (n ∷ ns)
+within_by : (name : List ℕ) (n : SessionReplica) (ns : List SessionReplica) (b : Bool) (o : Option ℕ) → ((k : ℕ) → o ≡ Some k → k < length ns) → (k : ℕ) → cond b (Some 0) (option_map (λ j. suc j) o) ≡ Some k → k < length (n ∷ ns)
 within_by name n ns true o f k e = let z : 0 ≡ k = cc in omega arith
 within_by name n ns false None f k e = cc
 within_by name n ns false (Some j) f k e = let z : suc j ≡ k = cc in omega (arith, f j refl)
 
-index_within : (name : List ℕ) (ns : List Named) (k : ℕ) → index_of name ns ≡ Some k → k < length ns
+index_within : (name : List ℕ) (ns : List SessionReplica) (k : ℕ) → replica_index name ns ≡ Some k → k < length ns
 index_within name [] k e = cc
-index_within name (n ∷ ns) k e = within_by name n ns (bytes_eq n.name.items name) (index_of name ns) (index_within name ns) k e
+index_within name (n ∷ ns) k e = within_by name n ns (bytes_eq n.name.items name) (replica_index name ns) (index_within name ns) k e
 
-pub targets_within : (ns : List Named) (asked : List (List ℕ × List ℕ)) (targets : List Target) → AllZip (IsTarget ns) asked (map target_of targets) → All (λ t. t.replica < length ns) targets
+pub targets_within : (ns : List SessionReplica) (asked : List (List ℕ × List ℕ)) (targets : List Target) → AllZip (IsTarget ns) asked (map target_of targets) → All (λ t. t.replica < length ns) targets
 targets_within ns [] [] z = All-nil (λ t. t.replica < length ns)
 targets_within ns [] (t ∷ targets) z = absurd z
 targets_within ns (a ∷ asked) [] z = absurd z
 targets_within ns (a ∷ asked) (t ∷ targets) z = All-cons (λ t. t.replica < length ns) t targets (index_within a.0 ns t.replica z.0.0) (targets_within ns asked targets z.1)
 
-named_by : (name : List ℕ) (n : Named) (ns : List Named) (b : Bool) → bytes_eq n.name.items name ≡ b → (o : Option ℕ) → ((k : ℕ) → o ≡ Some k → get_or (map (λ (m : Named). m.name.items) ns) k [] ≡ name)
-    → (k : ℕ) → cond b (Some 0) (option_map (λ j. suc j) o) ≡ Some k → get_or (map (λ (m : Named). m.name.items) (n ∷ ns)) k [] ≡ name
+named_by : (name : List ℕ) (n : SessionReplica) (ns : List SessionReplica) (b : Bool) → bytes_eq n.name.items name ≡ b → (o : Option ℕ) → ((k : ℕ) → o ≡ Some k → get_or (map (λ (m : SessionReplica). m.name.items) ns) k [] ≡ name)
+    → (k : ℕ) → cond b (Some 0) (option_map (λ j. suc j) o) ≡ Some k → get_or (map (λ (m : SessionReplica). m.name.items) (n ∷ ns)) k [] ≡ name
 named_by name n ns true e o f k is = let z : 0 ≡ k = cc in
-    subst (λ j. get_or (map (λ (m : Named). m.name.items) (n ∷ ns)) j [] ≡ name) z ((bytes_eq-Decides n.name.items name).0 e)
+    subst (λ j. get_or (map (λ (m : SessionReplica). m.name.items) (n ∷ ns)) j [] ≡ name) z ((bytes_eq-Decides n.name.items name).0 e)
 named_by name n ns false e None f k is = cc
 named_by name n ns false e (Some j) f k is = let z : suc j ≡ k = cc in
-    subst (λ i. get_or (map (λ (m : Named). m.name.items) (n ∷ ns)) i [] ≡ name) z (f j refl)
+    subst (λ i. get_or (map (λ (m : SessionReplica). m.name.items) (n ∷ ns)) i [] ≡ name) z (f j refl)
 
-index_named : (name : List ℕ) (ns : List Named) (k : ℕ) → index_of name ns ≡ Some k → get_or (map (λ (m : Named). m.name.items) ns) k [] ≡ name
+index_named : (name : List ℕ) (ns : List SessionReplica) (k : ℕ) → replica_index name ns ≡ Some k → get_or (map (λ (m : SessionReplica). m.name.items) ns) k [] ≡ name
 index_named name [] k e = cc
-index_named name (n ∷ ns) k e = named_by name n ns (bytes_eq n.name.items name) refl (index_of name ns) (index_named name ns) k e
+index_named name (n ∷ ns) k e = named_by name n ns (bytes_eq n.name.items name) refl (replica_index name ns) (index_named name ns) k e
 
-labels_named : (ns ms : List Named) → labels_of ms ≡ labels_of ns → map (λ (m : Named). m.name.items) ms ≡ map (λ (m : Named). m.name.items) ns
+labels_named : (ns ms : List SessionReplica) → labels_of ms ≡ labels_of ns → map (λ (m : SessionReplica). m.name.items) ms ≡ map (λ (m : SessionReplica). m.name.items) ns
 labels_named [] [] e = refl
 labels_named (n ∷ ns) [] e = cc
 labels_named [] (m ∷ ms) e = cc
 labels_named (n ∷ ns) (m ∷ ms) e =
-    ap (λ z. z ∷ map (λ (m : Named). m.name.items) ms) (ap (λ l. l.0.items) (first_label n m ns ms e)) ∙ ap (λ zs. n.name.items ∷ zs) (labels_named ns ms (later_labels n m ns ms e))
+    ap (λ z. z ∷ map (λ (m : SessionReplica). m.name.items) ms) (ap (λ l. l.0.items) (first_label n m ns ms e)) ∙ ap (λ zs. n.name.items ∷ zs) (labels_named ns ms (later_labels n m ns ms e))
 
 -- what is asked for is what targets spell
-pub words_are : (ns ms : List Named) → labels_of ms ≡ labels_of ns → (asked : List (List ℕ × List ℕ)) (targets : List (ℕ × List ℕ)) → AllZip (IsTarget ns) asked targets → map (words_of ms) targets ≡ asked
+pub words_are : (ns ms : List SessionReplica) → labels_of ms ≡ labels_of ns → (asked : List (List ℕ × List ℕ)) (targets : List (ℕ × List ℕ)) → AllZip (IsTarget ns) asked targets → map (target_words ms) targets ≡ asked
 words_are ns ms e [] [] z = refl
 words_are ns ms e [] (t ∷ targets) z = absurd z
 words_are ns ms e (a ∷ asked) [] z = absurd z
 words_are ns ms e (a ∷ asked) (t ∷ targets) z =
-    let name : get_or (map (λ (m : Named). m.name.items) ms) t.0 [] ≡ a.0 = ap (λ zs. get_or zs t.0 []) (labels_named ns ms e) ∙ index_named a.0 ns t.0 z.0.0 in
-    let head : words_of ms t ≡ a = λ i. (name i, sym z.0.1 i) in
-    ap (λ x. x ∷ map (words_of ms) targets) head ∙ ap (λ xs. a ∷ xs) (words_are ns ms e asked targets z.1)
+    let name : get_or (map (λ (m : SessionReplica). m.name.items) ms) t.0 [] ≡ a.0 = ap (λ zs. get_or zs t.0 []) (labels_named ns ms e) ∙ index_named a.0 ns t.0 z.0.0 in
+    let head : target_words ms t ≡ a = λ i. (name i, sym z.0.1 i) in
+    ap (λ x. x ∷ map (target_words ms) targets) head ∙ ap (λ xs. a ∷ xs) (words_are ns ms e asked targets z.1)
 
 -- ---- what the builds of names come to, and those of numbers
 
-module _ (world : World) (ns : List Named) (h : AllStand ns world.replicas) where
+module _ (world : World) (ns : List SessionReplica) (h : AllRepresent ns world.replicas) where
   reads : (asked : List ℕ × List ℕ) (target : ℕ × List ℕ) → IsTarget ns asked target → took_at (took_of world.replicas) target.0 ≡ took_by (or_new (replica_at asked.0 world.replicas))
   reads asked target z = took_read world.replicas target.0 ∙ ap (λ o. took_by (or_new o)) (same_read asked.0 target.0 ns world.replicas h z.0)
 
@@ -147,7 +147,7 @@ module _ (world : World) (ns : List Named) (h : AllStand ns world.replicas) wher
   held_sized (a ∷ asked) [] z = absurd z
   held_sized (a ∷ asked) (t ∷ targets) z =
       let f = found a.0 t.0 ns world.replicas h z.0.0 in
-      sized_both (actions_held a.0 world) (held_by world asked) (subst (λ (o : Option Replica). AllSized (or_new o).actions) (sym f.at) (f.stands f.one f.is).sized) (held_sized asked targets z.1)
+      sized_both (actions_held a.0 world) (held_by world asked) (subst (λ (o : Option ReplicaModel). AllSized (or_new o).actions) (sym f.at) (f.stands f.one f.is).sized) (held_sized asked targets z.1)
 
 -- ---- who takes what was built
 
@@ -156,27 +156,27 @@ same_bool true b f g = sym (f refl)
 same_bool false true f g = g refl
 same_bool false false f g = refl
 
-found_name : (name : List ℕ) (rs : List Replica) (r : Replica) → replica_at name rs ≡ Some r → r.name ≡ name
+found_name : (name : List ℕ) (rs : List ReplicaModel) (r : ReplicaModel) → replica_at name rs ≡ Some r → r.name ≡ name
 found_name name [] r e = cc
 found_name name (q ∷ rs) r e =
     let by : (b : Bool) → bytes_eq q.name name ≡ b → cond b (Some q) (replica_at name rs) ≡ Some r → r.name ≡ name =
     λ b. elim b as (λ z. bytes_eq q.name name ≡ z → cond z (Some q) (replica_at name rs) ≡ Some r → r.name ≡ name) [
-      | true ↦ λ t f. ap (λ (z : Replica). z.name) (sym (some_same q r f)) ∙ (bytes_eq-Decides q.name name).0 t
+      | true ↦ λ t f. ap (λ (z : ReplicaModel). z.name) (sym (some_same q r f)) ∙ (bytes_eq-Decides q.name name).0 t
       | false ↦ λ t f. found_name name rs r f
     ] in by (bytes_eq q.name name) refl e
 
-module _ (world : World) (ns : List Named) (h : AllStand ns world.replicas) (apart : AreApart (names_in world)) where
+module _ (world : World) (ns : List SessionReplica) (h : AllRepresent ns world.replicas) (apart : AreApart (replica_names world)) where
   -- a replica has a target's name where it has its number
-  same_one : (asked : List ℕ × List ℕ) (target : ℕ × List ℕ) → IsTarget ns asked target → (k : ℕ) (r : Replica) → slice_get world.replicas k ≡ Some r → bytes_eq r.name asked.0 ≡ (target.0 == k)
+  same_one : (asked : List ℕ × List ℕ) (target : ℕ × List ℕ) → IsTarget ns asked target → (k : ℕ) (r : ReplicaModel) → slice_get world.replicas k ≡ Some r → bytes_eq r.name asked.0 ≡ (target.0 == k)
   same_one asked target z k r e =
       let f = found asked.0 target.0 ns world.replicas h z.0 in
       let its : slice_get world.replicas target.0 ≡ Some f.replica = same_read asked.0 target.0 ns world.replicas h z.0 ∙ f.at in
       let name : f.replica.name ≡ asked.0 = found_name asked.0 world.replicas f.replica f.at in
       same_bool (bytes_eq r.name asked.0) (target.0 == k)
       (λ t. eq-eqb target.0 k (one_number world.replicas apart target.0 k f.replica r its e (name ∙ sym ((bytes_eq-Decides r.name asked.0).0 t))))
-      (λ t. (bytes_eq-Decides r.name asked.0).1 (ap (λ (q : Replica). q.name) (some_same r f.replica (sym e ∙ sym (ap (slice_get world.replicas) (eqb-true target.0 k t)) ∙ its)) ∙ name))
+      (λ t. (bytes_eq-Decides r.name asked.0).1 (ap (λ (q : ReplicaModel). q.name) (some_same r f.replica (sym e ∙ sym (ap (slice_get world.replicas) (eqb-true target.0 k t)) ∙ its)) ∙ name))
 
-  pub same_tests : (asked : List (List ℕ × List ℕ)) (targets : List (ℕ × List ℕ)) → AllZip (IsTarget ns) asked targets → (k : ℕ) (r : Replica) → slice_get world.replicas k ≡ Some r
+  pub same_tests : (asked : List (List ℕ × List ℕ)) (targets : List (ℕ × List ℕ)) → AllZip (IsTarget ns) asked targets → (k : ℕ) (r : ReplicaModel) → slice_get world.replicas k ≡ Some r
       → list_any (λ t. bytes_eq r.name t.0) asked ≡ builds targets k
   same_tests [] [] z k r e = refl
   same_tests [] (t ∷ targets) z k r e = absurd z
@@ -184,8 +184,8 @@ module _ (world : World) (ns : List Named) (h : AllStand ns world.replicas) (apa
   same_tests (a ∷ asked) (t ∷ targets) z k r e =
       ap (λ b. b || list_any (λ t. bytes_eq r.name t.0) asked) (same_one a t z.0 k r e) ∙ ap (λ b. (t.0 == k) || b) (same_tests asked targets z.1 k r e)
 
-share_one : (b : Bool) (n m : Named) (r : Replica) (actions : List Action) → m.name.items ≡ n.name.items → m.number ≡ n.number → Stands n r → AllSized actions
-    → ReplicaStandsFor m.replica r.writes (if b then r.actions ++ actions else r.actions) → Stands m (if b then grown r [] actions else r)
+share_one : (b : Bool) (n m : SessionReplica) (r : ReplicaModel) (actions : List Action) → m.name.items ≡ n.name.items → m.number ≡ n.number → RepresentsReplica n r → AllSized actions
+    → ReplicaStandsFor m.replica r.writes (if b then r.actions ++ actions else r.actions) → RepresentsReplica m (if b then grown_by r [] actions else r)
 share_one true n m r actions name number s sized holds = record {
   name = name ∙ s.name;
   number = number ∙ s.number;
@@ -195,10 +195,10 @@ share_one true n m r actions name number s sized holds = record {
 share_one false n m r actions name number s sized holds = record { name = name ∙ s.name; number = number ∙ s.number; holds = holds; sized = s.sized }
 
 -- each replica with a test's name takes actions, and so stands in the world that says so
-pub all_share : (test : Replica → Bool) (by : ℕ → Bool) (actions : List Action) (ns ms : List Named) (rs : List Replica) → labels_of ms ≡ labels_of ns → AllStand ns rs → AllSized actions
-    → ((k : ℕ) (r : Replica) → slice_get rs k ≡ Some r → test r ≡ by k)
+pub all_share : (test : ReplicaModel → Bool) (by : ℕ → Bool) (actions : List Action) (ns ms : List SessionReplica) (rs : List ReplicaModel) → labels_of ms ≡ labels_of ns → AllRepresent ns rs → AllSized actions
+    → ((k : ℕ) (r : ReplicaModel) → slice_get rs k ≡ Some r → test r ≡ by k)
     → ((k : ℕ) (t : Took) (m : holdings.Replica) → slice_get (took_of rs) k ≡ Some t → slice_get (replicas_of ms) k ≡ Some m → ReplicaStandsFor m t.writes (if by k then t.actions ++ actions else t.actions))
-    → AllStand ms (map (λ r. if test r then grown r [] actions else r) rs)
+    → AllRepresent ms (map (λ r. if test r then grown_by r [] actions else r) rs)
 all_share test by actions [] [] [] e h sized same stand = tt
 all_share test by actions [] ms (r ∷ rs) e h sized same stand = absurd h
 all_share test by actions (n ∷ ns) ms [] e h sized same stand = absurd h
@@ -213,7 +213,7 @@ all_share test by actions (n ∷ ns) (m ∷ ms) (r ∷ rs) e h sized same stand 
 
 -- ---- what is hashed
 
-held_in : (name : List ℕ) (world : World) (o : Option Replica) → replica_at name world.replicas ≡ o → (s : List ℕ) → Contains (hashed_actions (or_new o).actions) s → Contains (flat_map texts_of_replica world.replicas) s
+held_in : (name : List ℕ) (world : World) (o : Option ReplicaModel) → replica_at name world.replicas ≡ o → (s : List ℕ) → Contains (hashed_actions (or_new o).actions) s → Contains (flat_map texts_of_replica world.replicas) s
 held_in name world None e s c = absurd (none_in_empty s c)
 held_in name world (Some r) e s c = held_among name world.replicas r e s c
 
@@ -225,22 +225,22 @@ all_held_in world (a ∷ asked) s c =
       | inr rest ↦ all_held_in world asked s rest
     ]
 
-grown_more : (b : Bool) (r : Replica) (actions : List Action) (s : List ℕ) → Contains (texts_of_replica r) s → Contains (texts_of_replica (if b then grown r [] actions else r)) s
+grown_more : (b : Bool) (r : ReplicaModel) (actions : List Action) (s : List ℕ) → Contains (texts_of_replica r) s → Contains (texts_of_replica (if b then grown_by r [] actions else r)) s
 grown_more false r actions s c = c
 grown_more true r actions s c = hashed_more r.actions actions s c
 
-shared_more : (test : Replica → Bool) (actions : List Action) (rs : List Replica) (s : List ℕ) → Contains (flat_map texts_of_replica rs) s → Contains (flat_map texts_of_replica (map (λ r. if test r then grown r [] actions else r) rs)) s
+shared_more : (test : ReplicaModel → Bool) (actions : List Action) (rs : List ReplicaModel) (s : List ℕ) → Contains (flat_map texts_of_replica rs) s → Contains (flat_map texts_of_replica (map (λ r. if test r then grown_by r [] actions else r) rs)) s
 shared_more test actions [] s c = c
 shared_more test actions (r ∷ rs) s c =
-    let head : List (List ℕ) = texts_of_replica (if test r then grown r [] actions else r) in
-    let rest : List (List ℕ) = flat_map texts_of_replica (map (λ r. if test r then grown r [] actions else r) rs) in
+    let head : List (List ℕ) = texts_of_replica (if test r then grown_by r [] actions else r) in
+    let rest : List (List ℕ) = flat_map texts_of_replica (map (λ r. if test r then grown_by r [] actions else r) rs) in
     elim (Contains-append_cases (texts_of_replica r) (flat_map texts_of_replica rs) s c) [
       | inl l ↦ Contains-append_left head rest s (grown_more (test r) r actions s l)
       | inr more ↦ Contains-append_right head rest s (shared_more test actions rs s more)
     ]
 
 -- where the texts of the world after builds don't clash, no more do those of what is held before and of what the builds compile
-pub clear_builds : (world : World) (asked : List (List ℕ × List ℕ)) (all : List TargetBuild) → NoClash (hashed (after_builds world asked (Some all))) → NoClash (hashed_actions (held_by world asked ++ all_actions world.edition all))
+pub clear_builds : (world : World) (asked : List (List ℕ × List ℕ)) (all : List TargetBuild) → NoClash (hashed_texts (after_builds world asked (Some all))) → NoClash (hashed_actions (held_by world asked ++ all_actions world.edition all))
 clear_builds world asked all clear =
     let compiled : List Action = all_actions world.edition all in
     let actions : List Action = held_by world asked ++ compiled in

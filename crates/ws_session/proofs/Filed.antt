@@ -20,7 +20,7 @@ use Rattle.ws_command.specs.declared.refusal.Refusal.{Refusal}
 use Rattle.ws_command.specs.declared.refusal.Refusal.TheVariants.{Unknown, BadPath, NoFile, CounterFull, BadText}
 use Rattle.ws_command.specs.Commands.{Command, Nothing, Bad, Create, Write, Remove, Apply, Merge, Settle, Build, Run, Ids, Show, Use}
 use Rattle.ws_command.specs.Refusals.{first_of}
-use Rattle.ws_session.specs.World.{World, Replica, replica_at, or_new, knows, writes_of, actions_held, lacks, taking, grown, sharing, after_builds, edit_of, removal_of, is_text, is_path_word, is_content, content_in, refusals, Accepted, AfterBy, After}
+use Rattle.ws_session.specs.World.{World, ReplicaModel, replica_at, or_new, knows, writes_of, actions_held, lacks, taking, grown_by, sharing, after_builds, edit_of, removal_of, is_whole_text, is_path_word, is_content, content_in, refusals, Accepted, AfterBy, After}
 use Rattle.ws_session.proofs.Bytes.{utf8_bytes}
 
 -- each of these writes is of a file
@@ -28,7 +28,7 @@ abbrev pub OfFiles : List AWrite → Type 0
 OfFiles W = (w : AWrite) → Contains W w → IsOfFile w
 
 -- each write that each of these replicas took is
-abbrev pub AreFiled : List Replica → Type 0
+abbrev pub AreFiled : List ReplicaModel → Type 0
 AreFiled [] = Unit {0}
 AreFiled (r ∷ rs) = OfFiles r.writes × AreFiled rs
 
@@ -46,43 +46,43 @@ one_file w is v c = elim (head_or_later w [] v c) [ inl same ↦ subst IsOfFile 
 both_files : (V W : List AWrite) → OfFiles V → OfFiles W → OfFiles (V ++ W)
 both_files V W f g w c = elim (Contains-append_cases V W w c) [ inl l ↦ f w l | inr r ↦ g w r ]
 
-all_files : (rs : List Replica) → AreFiled rs → OfFiles (flat_map (λ r. r.writes) rs)
+all_files : (rs : List ReplicaModel) → AreFiled rs → OfFiles (flat_map (λ r. r.writes) rs)
 all_files [] f = no_files
 all_files (r ∷ rs) f = both_files r.writes (flat_map (λ s. s.writes) rs) f.0 (all_files rs f.1)
 
 -- ---- lists of replicas
 
 -- what a replica that grew took
-grown_files : (r : Replica) (W : List AWrite) (E : List Action) → OfFiles r.writes → OfFiles W → OfFiles (grown r W E).writes
+grown_files : (r : ReplicaModel) (W : List AWrite) (E : List Action) → OfFiles r.writes → OfFiles W → OfFiles (grown_by r W E).writes
 grown_files r W E f g = both_files r.writes W f g
 
-taking_filed : (name : List ℕ) (W : List AWrite) (E : List Action) → OfFiles W → (rs : List Replica) → AreFiled rs → AreFiled (taking name W E rs)
+taking_filed : (name : List ℕ) (W : List AWrite) (E : List Action) → OfFiles W → (rs : List ReplicaModel) → AreFiled rs → AreFiled (taking name W E rs)
 taking_filed name W E g [] f = tt
 taking_filed name W E g (r ∷ rs) f =
-    let by : (b : Bool) → AreFiled (cond b (grown r W E ∷ rs) (r ∷ taking name W E rs)) =
-    λ b. elim b as (λ z. AreFiled (cond z (grown r W E ∷ rs) (r ∷ taking name W E rs))) [
+    let by : (b : Bool) → AreFiled (cond b (grown_by r W E ∷ rs) (r ∷ taking name W E rs)) =
+    λ b. elim b as (λ z. AreFiled (cond z (grown_by r W E ∷ rs) (r ∷ taking name W E rs))) [
       | true ↦ (grown_files r W E f.0 g, f.1)
       | false ↦ (f.0, taking_filed name W E g rs f.1)
     ] in by (bytes_eq r.name name)
 
 -- each with these writes
-with_filed : (W : List AWrite) (E : List Action) → OfFiles W → (rs : List Replica) → AreFiled (map (λ r. record { name = r.name; number = r.number; writes = W; actions = E }) rs)
+with_filed : (W : List AWrite) (E : List Action) → OfFiles W → (rs : List ReplicaModel) → AreFiled (map (λ r. record { name = r.name; number = r.number; writes = W; actions = E }) rs)
 with_filed W E g [] = tt
 with_filed W E g (r ∷ rs) = (g, with_filed W E g rs)
 
-sharing_filed : (targets : List (List ℕ × List ℕ)) (E : List Action) (rs : List Replica) → AreFiled rs → AreFiled (sharing targets E rs)
+sharing_filed : (targets : List (List ℕ × List ℕ)) (E : List Action) (rs : List ReplicaModel) → AreFiled rs → AreFiled (sharing targets E rs)
 sharing_filed targets E [] f = tt
 sharing_filed targets E (r ∷ rs) f =
-    let by : (b : Bool) → OfFiles (if b then grown r [] E else r).writes = λ b. elim b as (λ z. OfFiles (if z then grown r [] E else r).writes) [
+    let by : (b : Bool) → OfFiles (if b then grown_by r [] E else r).writes = λ b. elim b as (λ z. OfFiles (if z then grown_by r [] E else r).writes) [
       | true ↦ grown_files r [] E f.0 no_files
       | false ↦ f.0
     ] in (by (list_any (λ t. bytes_eq r.name t.0) targets), sharing_filed targets E rs f.1)
 
-push_filed : (rs : List Replica) (r : Replica) → AreFiled rs → OfFiles r.writes → AreFiled (rs ++ r ∷ [])
+push_filed : (rs : List ReplicaModel) (r : ReplicaModel) → AreFiled rs → OfFiles r.writes → AreFiled (rs ++ r ∷ [])
 push_filed [] r f g = (g, tt)
 push_filed (q ∷ rs) r f g = (f.0, push_filed rs r f.1 g)
 
-files_at : (name : List ℕ) (rs : List Replica) → AreFiled rs → OfFiles (or_new (replica_at name rs)).writes
+files_at : (name : List ℕ) (rs : List ReplicaModel) → AreFiled rs → OfFiles (or_new (replica_at name rs)).writes
 files_at name [] f = no_files
 files_at name (r ∷ rs) f =
     let by : (b : Bool) → OfFiles (or_new (cond b (Some r) (replica_at name rs))).writes = λ b. elim b as (λ z. OfFiles (or_new (cond z (Some r) (replica_at name rs))).writes) [
@@ -126,7 +126,7 @@ no_error (Some x) e = cc
 path_is : (path : List ℕ) → is_path_word path ≡ true → is_path path ≡ true
 path_is path e = (and_parts (is_utf8 path) (is_path path) e).1
 
-text_is : (edition : Edition) (text : Option (List ℕ)) (s : List ℕ) → is_text edition text ≡ true → unwrap_or text [] ≡ s → IsText s
+text_is : (edition : Edition) (text : Option (List ℕ)) (s : List ℕ) → is_whole_text edition text ≡ true → unwrap_or text [] ≡ s → IsText s
 text_is edition None s e same = cc
 text_is edition (Some t) s e same =
     let both = and_parts (is_utf8 t) (is_none (text_error edition t)) e in
@@ -135,7 +135,7 @@ text_is edition (Some t) s e same =
 some_same : (s t : List ℕ) → Some s ≡ Some t → s ≡ t
 some_same s t e = cc
 
-edit_is : (name path : List ℕ) (text : Option (List ℕ)) (world : World) → is_path_word path ≡ true → is_text world.edition text ≡ true → IsOfFile (edit_of name path (unwrap_or text []) world)
+edit_is : (name path : List ℕ) (text : Option (List ℕ)) (world : World) → is_path_word path ≡ true → is_whole_text world.edition text ≡ true → IsOfFile (edit_of name path (unwrap_or text []) world)
 edit_is name path text world p t = record { path = path_is path p; text = λ s e. text_is world.edition text s t (some_same (unwrap_or text []) s e) }
 
 removal_is : (name path : List ℕ) (world : World) → is_path_word path ≡ true → IsOfFile (removal_of name path world)
@@ -163,8 +163,8 @@ filed_accepted Bad text world next none e f = same_filed world next e f
 filed_accepted (Create name) text world next none e f = subst IsFiled (sym e) (push_filed world.replicas _ f no_files)
 filed_accepted (Write name path lines) text world next none e f =
     let w : AWrite = edit_of name path (unwrap_or text []) world in
-    let is = write_passed (not (knows name world)) (not (is_path_word path)) (top (writes_of name world) == 18446744073709551615) (not (is_text world.edition text)) none in
-    let file : IsOfFile w = edit_is name path text world (is_true (is_path_word path) is.0) (is_true (is_text world.edition text) is.1) in
+    let is = write_passed (not (knows name world)) (not (is_path_word path)) (top (writes_of name world) == 18446744073709551615) (not (is_whole_text world.edition text)) none in
+    let file : IsOfFile w = edit_is name path text world (is_true (is_path_word path) is.0) (is_true (is_whole_text world.edition text) is.1) in
     subst IsFiled (sym e) (taking_filed name (w ∷ []) [] (one_file w file) world.replicas f)
 filed_accepted (Remove name path) text world next none e f =
     let w : AWrite = removal_of name path world in

@@ -13,16 +13,16 @@ use Rattle.ws_action.proofs.Members.{later, at_head}
 use Rattle.ws_graph.specs.Plan.{Planned, NoFiles, Faulty, Sound}
 use Rattle.ws_graph.specs.BuildPlan.{Directory, AreRanks}
 use Rattle.ws_graph.proofs.RankedPlan.{ranked_build_plan}
-use Rattle.ws_report.specs.declared.Standing.{Standing}
-use Rattle.ws_report.specs.declared.Standing.TheVariants.{NoId, Absent, Held}
-use Rattle.ws_replica.specs.Reports.{Fate, Stopped, Blocked, Wrong, Good, fate_at, action_by, action_in, TargetBuild, IsTargetBuild}
-use Rattle.ws_replica.specs.Ids.{standing_at, IsHeldGood, IsStanding, IsIdRow, AreIdRows}
+use Rattle.ws_report.specs.declared.IdStatus.{IdStatus}
+use Rattle.ws_report.specs.declared.IdStatus.TheVariants.{NoId, Absent, Held}
+use Rattle.ws_replica.specs.Reports.{DirectoryOutcome, Stopped, Blocked, Wrong, Good, outcome_at, action_by, action_in, TargetBuild, IsTargetBuild}
+use Rattle.ws_replica.specs.Ids.{id_status_at, IsHeldGood, IsIdStatus, IsIdRow, AreIdRows}
 use Rattle.ws_replica.proofs.Numbered.{same_lists, ranked}
 use Rattle.ws_replica.proofs.SomeBuild.{good_or_not, zip_all}
 use Rattle.ws_session.proofs.Programs.{each, among}
 
 abbrev Row : Type 0
-Row = List ℕ × Standing
+Row = List ℕ × IdStatus
 
 abbrev blank : Row
 blank = ([], NoId)
@@ -32,12 +32,12 @@ row_at rows k = slice_index_or rows k blank
 
 -- ---- how rows stand
 
-standing_is : (rows : List Row) (k : ℕ) → standing_at rows k ≡ (row_at rows k).1
+standing_is : (rows : List Row) (k : ℕ) → id_status_at rows k ≡ (row_at rows k).1
 standing_is [] k = refl
 standing_is (r ∷ rows) zero = refl
 standing_is (r ∷ rows) (suc k) = standing_is rows k
 
-same_standing : (r s : List Row) (k : ℕ) → row_at r k ≡ row_at s k → standing_at r k ≡ standing_at s k
+same_standing : (r s : List Row) (k : ℕ) → row_at r k ≡ row_at s k → id_status_at r k ≡ id_status_at s k
 same_standing r s k e = standing_is r k ∙ ap (λ (x : Row). x.1) e ∙ sym (standing_is s k)
 
 row_is : (rows : List Row) (k : ℕ) (r : Row) → slice_get rows k ≡ Some r → row_at rows k ≡ r
@@ -107,7 +107,7 @@ related_past R (a ∷ xs) (b ∷ ys) h (suc k) e = related_past R xs ys h.1 k e
 -- ---- one standing
 
 module _ (held : List Action) (a : Action) (I J : Type 0) (there : I → J) (back : J → I) where
-  one_standing_of : (x y : Standing) → IsStanding held I (Some a) x → IsStanding held J (Some a) y → x ≡ y
+  one_standing_of : (x y : IdStatus) → IsIdStatus held I (Some a) x → IsIdStatus held J (Some a) y → x ≡ y
   one_standing_of NoId NoId g h = refl
   one_standing_of NoId (Absent i) g h = absurd (g (back h.0))
   one_standing_of NoId (Held i) g h = absurd (g (back h.0))
@@ -119,28 +119,28 @@ module _ (held : List Action) (a : Action) (I J : Type 0) (there : I → J) (bac
   one_standing_of (Held i) (Held j) g h = ap Held (g.2 ∙ sym h.2)
 
 -- of which imports it is asked matters where there is an action
-one_standing : (held : List Action) (o : Option Action) (I J : Type 0) → ((a : Action) → o ≡ Some a → (I → J) × (J → I)) → (x y : Standing) → IsStanding held I o x → IsStanding held J o y → x ≡ y
+one_standing : (held : List Action) (o : Option Action) (I J : Type 0) → ((a : Action) → o ≡ Some a → (I → J) × (J → I)) → (x y : IdStatus) → IsIdStatus held I o x → IsIdStatus held J o y → x ≡ y
 one_standing held None I J both x y g h = g ∙ sym h
 one_standing held (Some a) I J both x y g h = one_standing_of held a I J (both a refl).0 (both a refl).1 x y g h
 
-standing_moves : (held : List Action) (o : Option Action) (I J : Type 0) → ((a : Action) → o ≡ Some a → (I → J) × (J → I)) → (x : Standing) → IsStanding held I o x → IsStanding held J o x
+standing_moves : (held : List Action) (o : Option Action) (I J : Type 0) → ((a : Action) → o ≡ Some a → (I → J) × (J → I)) → (x : IdStatus) → IsIdStatus held I o x → IsIdStatus held J o x
 standing_moves held None I J both x g = g
 standing_moves held (Some a) I J both NoId g = λ j. g ((both a refl).1 j)
 standing_moves held (Some a) I J both (Absent i) g = ((both a refl).0 g.0, g.1, g.2)
 standing_moves held (Some a) I J both (Held i) g = ((both a refl).0 g.0, g.1, g.2)
 
-some_standing : (held : List Action) (o : Option Action) (I : Type 0) → I ⊎ (I → ⊥) → (x : Standing) × IsStanding held I o x
+some_standing : (held : List Action) (o : Option Action) (I : Type 0) → I ⊎ (I → ⊥) → (x : IdStatus) × IsIdStatus held I o x
 some_standing held None I d = (NoId, refl)
 some_standing held (Some a) I (inr bad) = (NoId, bad)
 some_standing held (Some a) I (inl is) = elim (among held a) [ inl has ↦ (Held (action_id a), (is, has, refl)) | inr lacks ↦ (Absent (action_id a), (is, lacks, refl)) ]
 
 -- where a directory has an action it has files
-has_files : (edition : Edition) (fates : List Fate) (d : Directory) (p : Planned) (a : Action) → action_by edition fates d p ≡ Some a → (files : List Parsed) × (p ≡ Sound files)
+has_files : (edition : Edition) (fates : List DirectoryOutcome) (d : Directory) (p : Planned) (a : Action) → action_by edition fates d p ≡ Some a → (files : List Parsed) × (p ≡ Sound files)
 has_files edition fates d NoFiles a e = absurd (cc (e))
 has_files edition fates d (Faulty fault) a e = absurd (cc (e))
 has_files edition fates d (Sound files) a e = (files, refl)
 
-sound_of : (edition : Edition) (fates : List Fate) (d : Directory) (fate : Fate) (a : Action) → action_in edition fates d fate ≡ Some a → (files : List Parsed) × (d.planned ≡ Sound files)
+sound_of : (edition : Edition) (fates : List DirectoryOutcome) (d : Directory) (fate : DirectoryOutcome) (a : Action) → action_in edition fates d fate ≡ Some a → (files : List Parsed) × (d.planned ≡ Sound files)
 sound_of edition fates d (Stopped fault) a e = absurd (cc (e))
 sound_of edition fates d Blocked a e = absurd (cc (e))
 sound_of edition fates d (Wrong fault) a e = has_files edition fates d d.planned a e
@@ -149,50 +149,50 @@ sound_of edition fates d (Good typed) a e = has_files edition fates d d.planned 
 -- ---- rows by ranks
 
 module _ (edition : Edition) (held : List Action) (build : TargetBuild) where
-  good_moves : (r s : List Row) (k : ℕ) → standing_at r k ≡ standing_at s k → IsHeldGood build r k → IsHeldGood build s k
+  good_moves : (r s : List Row) (k : ℕ) → id_status_at r k ≡ id_status_at s k → IsHeldGood build r k → IsHeldGood build s k
   good_moves r s k e (typed, id, good, stands) = (typed, id, good, sym e ∙ stands)
 
-  goods_move : (r s : List Row) (ks : List ℕ) → ((k : ℕ) → Contains ks k → standing_at r k ≡ standing_at s k) → All (IsHeldGood build r) ks → All (IsHeldGood build s) ks
+  goods_move : (r s : List Row) (ks : List ℕ) → ((k : ℕ) → Contains ks k → id_status_at r k ≡ id_status_at s k) → All (IsHeldGood build r) ks → All (IsHeldGood build s) ks
   goods_move r s [] same h = All-nil (IsHeldGood build s)
   goods_move r s (k ∷ ks) same h =
       All-cons (IsHeldGood build s) k ks (good_moves r s k (same k (at_head ks k k refl)) (All-head (IsHeldGood build r) k ks h))
       (goods_move r s ks (λ j c. same j (later k ks j c)) (All-tail (IsHeldGood build r) k ks h))
 
-  both : (r s : List Row) (d : Directory) (fate : Fate) → ((files : List Parsed) → d.planned ≡ Sound files → (k : ℕ) → Contains d.imports k → standing_at r k ≡ standing_at s k) → (a : Action) → action_in edition build.fates d fate ≡ Some a
+  both : (r s : List Row) (d : Directory) (fate : DirectoryOutcome) → ((files : List Parsed) → d.planned ≡ Sound files → (k : ℕ) → Contains d.imports k → id_status_at r k ≡ id_status_at s k) → (a : Action) → action_in edition build.fates d fate ≡ Some a
       → (All (IsHeldGood build r) d.imports → All (IsHeldGood build s) d.imports) × (All (IsHeldGood build s) d.imports → All (IsHeldGood build r) d.imports)
   both r s d fate agree a e =
       let sound = sound_of edition build.fates d fate a e in
       (goods_move r s d.imports (agree sound.0 sound.1), goods_move s r d.imports (λ j c. sym (agree sound.0 sound.1 j c)))
 
   held_good : (r : List Row) (k : ℕ) → IsHeldGood build r k ⊎ (IsHeldGood build r k → ⊥)
-  held_good r k = elim (good_or_not (fate_at build.fates k)) [
+  held_good r k = elim (good_or_not (outcome_at build.fates k)) [
     | inr bad ↦ inr (λ g. bad g.0 g.2)
-    | inl (typed, good) ↦ held_row r k typed good (standing_at r k) refl
+    | inl (typed, good) ↦ held_row r k typed good (id_status_at r k) refl
   ]
     where
-      held_row : (r : List Row) (k : ℕ) (typed : _) → fate_at build.fates k ≡ Good typed → (s : Standing) → standing_at r k ≡ s → IsHeldGood build r k ⊎ (IsHeldGood build r k → ⊥)
+      held_row : (r : List Row) (k : ℕ) (typed : _) → outcome_at build.fates k ≡ Good typed → (s : IdStatus) → id_status_at r k ≡ s → IsHeldGood build r k ⊎ (IsHeldGood build r k → ⊥)
       held_row r k typed good NoId e = inr (λ g. (let wrong : NoId ≡ Held g.1 = sym e ∙ g.3 in absurd (cc (wrong))))
       held_row r k typed good (Absent i) e = inr (λ g. (let wrong : Absent i ≡ Held g.1 = sym e ∙ g.3 in absurd (cc (wrong))))
       held_row r k typed good (Held i) e = inl (typed, i, good, e)
 
-  abbrev pairs : List (Directory × Fate)
+  abbrev pairs : List (Directory × DirectoryOutcome)
   pairs = zip build.directories build.fates
 
-  row_moves : (r s : List Row) (p : Directory × Fate) (row : Row) → ((files : List Parsed) → p.0.planned ≡ Sound files → (k : ℕ) → Contains p.0.imports k → standing_at r k ≡ standing_at s k) → IsIdRow edition held build r p row → IsIdRow edition held build s p row
+  row_moves : (r s : List Row) (p : Directory × DirectoryOutcome) (row : Row) → ((files : List Parsed) → p.0.planned ≡ Sound files → (k : ℕ) → Contains p.0.imports k → id_status_at r k ≡ id_status_at s k) → IsIdRow edition held build r p row → IsIdRow edition held build s p row
   row_moves r s (d, fate) (path, standing) agree g = (
     g.0,
     standing_moves held (action_in edition build.fates d fate) (All (IsHeldGood build r) d.imports) (All (IsHeldGood build s) d.imports) (both r s d fate agree) standing g.1,
   )
 
-  some_row : (r : List Row) (p : Directory × Fate) → (row : Row) × IsIdRow edition held build r p row
+  some_row : (r : List Row) (p : Directory × DirectoryOutcome) → (row : Row) × IsIdRow edition held build r p row
   some_row r (d, fate) =
       let its = some_standing held (action_in edition build.fates d fate) (All (IsHeldGood build r) d.imports) (each (IsHeldGood build r) (held_good r) d.imports) in
       ((d.path, its.0), (refl, its.1))
 
-  one_row : (r s : List Row) (p : Directory × Fate) (x y : Row) → ((files : List Parsed) → p.0.planned ≡ Sound files → (k : ℕ) → Contains p.0.imports k → standing_at r k ≡ standing_at s k) → IsIdRow edition held build r p x → IsIdRow edition held build s p y → x ≡ y
+  one_row : (r s : List Row) (p : Directory × DirectoryOutcome) (x y : Row) → ((files : List Parsed) → p.0.planned ≡ Sound files → (k : ℕ) → Contains p.0.imports k → id_status_at r k ≡ id_status_at s k) → IsIdRow edition held build r p x → IsIdRow edition held build s p y → x ≡ y
   one_row r s (d, fate) (p, x) (q, y) agree g h =
       let same : x ≡ y = one_standing held (action_in edition build.fates d fate) (All (IsHeldGood build r) d.imports) (All (IsHeldGood build s) d.imports) (both r s d fate agree) x y g.1 h.1 in
-      ap (λ (z : List ℕ). (z, x)) (g.0 ∙ sym h.0) ∙ ap (λ (z : Standing). (q, z)) same
+      ap (λ (z : List ℕ). (z, x)) (g.0 ∙ sym h.0) ∙ ap (λ (z : IdStatus). (q, z)) same
 
   module _ (rank : ℕ → ℕ) (ranks : AreRanks build.directories rank) where
     -- ---- one list
@@ -205,7 +205,7 @@ module _ (edition : Edition) (held : List Action) (build : TargetBuild) where
             let x = related (IsIdRow edition held build r) pairs r g k (d, fate) at in
             let y = related (IsIdRow edition held build s) pairs s h k (d, fate) at in
             let there = zip_at build.directories build.fates k d fate at in
-            let agree : (files : List Parsed) → d.planned ≡ Sound files → (j : ℕ) → Contains d.imports j → standing_at r j ≡ standing_at s j =
+            let agree : (files : List Parsed) → d.planned ≡ Sound files → (j : ℕ) → Contains d.imports j → id_status_at r j ≡ id_status_at s j =
             λ files sound j c. same_standing r s j (same_at j (below j (ranks k j d files there sound c))) in
             x.1 ∙ ap Some (one_row r s (d, fate) x.0 y.0 agree x.2 y.2) ∙ sym y.1)
       ] refl
@@ -224,17 +224,17 @@ module _ (edition : Edition) (held : List Action) (build : TargetBuild) where
     record Round (n : ℕ) : Type 0 where
       rows : List Row
       size : length rows ≡ length pairs
-      are : (k : ℕ) (p : Directory × Fate) → slice_get pairs k ≡ Some p → rank k < n → IsIdRow edition held build rows p (row_at rows k)
+      are : (k : ℕ) (p : Directory × DirectoryOutcome) → slice_get pairs k ≡ Some p → rank k < n → IsIdRow edition held build rows p (row_at rows k)
 
     first_round : Round 0
     first_round =
-        let all = choice (λ k (p : Directory × Fate) (r : Row). Unit {0}) pairs (λ k p at. (blank, tt)) in
+        let all = choice (λ k (p : Directory × DirectoryOutcome) (r : Row). Unit {0}) pairs (λ k p at. (blank, tt)) in
         record { rows = all.0; size = all.1; are = λ k p at lt. absurd (omega (arith, lt)) }
 
-    abbrev Next : (n : ℕ) → List Row → ℕ → Directory × Fate → Row → Type 0
+    abbrev Next : (n : ℕ) → List Row → ℕ → Directory × DirectoryOutcome → Row → Type 0
     Next n f k p r = (rank k < n → r ≡ row_at f k) × ((rank k < n → ⊥) → IsIdRow edition held build f p r)
 
-    next_at : (n : ℕ) (f : Round n) (k : ℕ) (p : Directory × Fate) → slice_get pairs k ≡ Some p → (r : Row) × Next n f.rows k p r
+    next_at : (n : ℕ) (f : Round n) (k : ℕ) (p : Directory × DirectoryOutcome) → slice_get pairs k ≡ Some p → (r : Row) × Next n f.rows k p r
     next_at n f k p at = elim (cases_lt (rank k) n) [
       | inl lt ↦ (row_at f.rows k, (λ l. refl, λ never. absurd (never lt)))
       | inr past ↦ (let r = some_row f.rows p in (r.0, (λ lt. absurd (omega (arith, lt, past)), λ never. r.1)))
@@ -254,7 +254,7 @@ module _ (edition : Edition) (held : List Action) (build : TargetBuild) where
           size = all.1;
           are = λ k p at lt.
               let there = zip_at build.directories build.fates k p.0 p.1 at in
-              let agree : (files : List Parsed) → p.0.planned ≡ Sound files → (j : ℕ) → Contains p.0.imports j → standing_at f j ≡ standing_at g j =
+              let agree : (files : List Parsed) → p.0.planned ≡ Sound files → (j : ℕ) → Contains p.0.imports j → id_status_at f j ≡ id_status_at g j =
               λ files e j c. same_standing f g j (kept j (let below = ranks k j p.0 files there e c in omega (arith, below, lt))) in
               elim (cases_lt (rank k) n) [
                 | inl below ↦ subst (λ r. IsIdRow edition held build g p r) (kept k below) (row_moves f g p (row_at f k) agree (round.are k p at below))

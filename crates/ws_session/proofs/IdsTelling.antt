@@ -5,26 +5,26 @@ use Rattle.go_text.specs.declared.edition.Edition.{Edition}
 use Rattle.ws_action.specs.Actions.{Action}
 use Rattle.ws_replica.specs.Reports.{IsTargetBuild, actions_of}
 use Rattle.ws_replica.specs.Ids.{AreIdRows, AreIds}
-use Rattle.ws_report.specs.declared.Standing.{Standing}
-use Rattle.ws_session.specs.declared.replicas.Named.{Named}
+use Rattle.ws_report.specs.declared.IdStatus.{IdStatus}
+use Rattle.ws_session.specs.declared.replicas.SessionReplica.{SessionReplica}
 use Rattle.ws_command.specs.declared.refusal.Refusal.TheVariants.{Unknown, NoPackage}
 use Rattle.ws_command.specs.Commands.{Ids}
 use Rattle.ws_command.specs.IdsPrinting.{ids_text}
 use Rattle.ws_command.specs.Refusals.{first_of, refused}
 use Rattle.ws_session.specs.World.{World, or_new, writes_of, actions_held, seeking, refusals, AfterBy, After, PrintsBy, Prints}
-use Rattle.ws_session.specs.Standing.{index_of, AllStand, Tells, HasNoFilesAt, AreIdsAt}
+use Rattle.ws_session.specs.Representation.{replica_index, AllRepresent, CommandResult, HasNoFilesAt, AreIdsAt}
 use Rattle.ws_session.proofs.Standings.{found}
 use Rattle.ws_session.proofs.Settling.{knows_none, knows_some}
 use Rattle.ws_session.proofs.Telling.{settled_tells, build_row, clear_sought}
 use Rattle.ws_session.proofs.RunTelling.{held_among}
 
-module _ (name directory : List ℕ) (text : Option (List ℕ)) (world : World) (ns : List Named) (h : AllStand ns world.replicas) where
-  pub ids_unknown : (told : List ℕ) → index_of name ns ≡ None → told ≡ refused Unknown → Tells (Ids name directory) text world told ns
+module _ (name directory : List ℕ) (text : Option (List ℕ)) (world : World) (ns : List SessionReplica) (h : AllRepresent ns world.replicas) where
+  pub ids_unknown : (told : List ℕ) → replica_index name ns ≡ None → told ≡ refused Unknown → CommandResult (Ids name directory) text world told ns
   ids_unknown told e t = settled_tells (Ids name directory) text world (Some Unknown) told ns (λ _ q. q) t
       (record { refuses = build_row _ _ false _ (knows_none name world ns h e) refl; next = world; after = refl; edition = refl; stand = h })
 
-  module _ (k : ℕ) (e : index_of name ns ≡ Some k) where
-    pub ids_word : (told : List ℕ) → is_utf8 directory ≡ false → told ≡ refused NoPackage → Tells (Ids name directory) text world told ns
+  module _ (k : ℕ) (e : replica_index name ns ≡ Some k) where
+    pub ids_word : (told : List ℕ) → is_utf8 directory ≡ false → told ≡ refused NoPackage → CommandResult (Ids name directory) text world told ns
     ids_word told u t = settled_tells (Ids name directory) text world (Some NoPackage) told ns (λ _ q. q) t
         (record { refuses = build_row _ _ true false (knows_some name k world ns h e) u; next = world; after = refl; edition = refl; stand = h })
 
@@ -38,7 +38,7 @@ module _ (name directory : List ℕ) (text : Option (List ℕ)) (world : World) 
     allowed u = build_row _ _ true true (knows_some name k world ns h e) u
 
     pub ids_none : (told : List ℕ) → is_utf8 directory ≡ true → told ≡ refused NoPackage
-        → HasNoFilesAt world.edition directory ns k → Tells (Ids name directory) text world told ns
+        → HasNoFilesAt world.edition directory ns k → CommandResult (Ids name directory) text world told ns
     unfolding After Prints
     ids_none told u t none =
         let f = found name k ns world.replicas h e in
@@ -52,8 +52,8 @@ module _ (name directory : List ℕ) (text : Option (List ℕ)) (world : World) 
           clear = λ _. (subst (λ z. PrintsBy z (Ids name directory) world told) (sym (allowed u)) (None, build, t), h);
         }
 
-    pub ids_told : (edition : Edition) (rows : List (List ℕ × Standing)) (told : List ℕ) → edition ≡ world.edition → is_utf8 directory ≡ true
-        → told ≡ ids_text name directory rows → AreIdsAt edition directory ns k rows → Tells (Ids name directory) text world told ns
+    pub ids_told : (edition : Edition) (rows : List (List ℕ × IdStatus)) (told : List ℕ) → edition ≡ world.edition → is_utf8 directory ≡ true
+        → told ≡ ids_text name directory rows → AreIdsAt edition directory ns k rows → CommandResult (Ids name directory) text world told ns
     unfolding After Prints
     ids_told edition rows told same u t are =
         let f = found name k ns world.replicas h e in

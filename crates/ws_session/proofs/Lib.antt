@@ -1,31 +1,31 @@
-pub mod Asked
-pub mod BuildTelling
-pub mod Building
-pub mod Bytes
-pub mod Counted
-pub mod CountedBuild
+mod Asked
+mod BuildTelling
+mod Building
+mod Bytes
+mod Counted
+mod CountedBuild
 pub mod Filed
-pub mod IdRows
-pub mod IdsTelling
-pub mod Joining
-pub mod KnownWrites
-pub mod Lines
-pub mod Merging
-pub mod Names
+mod IdRows
+mod IdsTelling
+mod Joining
+mod KnownWrites
+mod Lines
+mod Merging
+mod Names
 pub mod OneText
-pub mod Paths
-pub mod Programs
-pub mod RunTelling
-pub mod Runs
-pub mod SameAnswers
-pub mod Settled
-pub mod Settling
-pub mod Showing
+mod Paths
+mod Programs
+mod RunTelling
+mod Runs
+mod SameAnswers
+mod Settled
+mod Settling
+mod Showing
 pub mod SomeText
-pub mod Standings
-pub mod Taken
-pub mod Telling
-pub mod Tested
-pub mod Unbuilt
-pub mod Utf8
-pub mod Writing
+mod Standings
+mod Taken
+mod Telling
+mod Tested
+mod Unbuilt
+mod Utf8
+mod Writing

@@ -13,19 +13,19 @@ use Rattle.ws_command.specs.IdsPrinting.{ids_text}
 use Rattle.ws_command.specs.ShowPrinting.{show_text}
 use Rattle.std.specs.FinMap.{entries}
 use Rattle.ws_register.specs.Edits.{Contents}
-use Rattle.ws_register.specs.Sources.{IsShown}
+use Rattle.ws_register.specs.Sources.{AreGreatestWrites}
 use Rattle.ws_register.proofs.Laws.{one_contents, SameMembers-itself}
 use Rattle.go_code.specs.declared.ending.Ending.{Ending}
 use Rattle.go_meaning.specs.Meaning.{Outcome, Gives, Ends, Stuck}
-use Rattle.go_meaning.specs.Programs.{IsOver, SourceMeaning, run}
+use Rattle.go_meaning.specs.Programs.{IsOver, SourceMeaning, run_program}
 use Rattle.go_typed.specs.Trees.{Package}
 use Rattle.ws_replica.proofs.OneBuild.{one_build as one_build_of}
 use Rattle.ws_session.proofs.IdRows.{one_id_rows}
 use Rattle.ws_session.proofs.Programs.{one_program}
-use Rattle.ws_session.specs.World.{World, opening, writes_of, actions_held, seeking, AreBuilds, after_builds, builds_text, refusals, Accepted, AfterBy, After, Answers, PrintsBy, Prints, IsBuild, Ran, Listed}
+use Rattle.ws_session.specs.World.{World, empty_world, writes_of, actions_held, seeking, AreBuilds, after_builds, builds_text, refusals, Accepted, AfterBy, After, Outputs, PrintsBy, Prints, IsBuild, PrintsRun, Listed}
 use Rattle.ws_session.specs.Text.{TextFrom, SessionText}
 
-one_shown : (W s t : List AWrite) → IsShown W s → IsShown W t → s ≡ t
+one_shown : (W s t : List AWrite) → AreGreatestWrites W s → AreGreatestWrites W t → s ≡ t
 one_shown W s t g h = g.2 ∙ ap (λ (m : Contents). entries m) (one_contents g.0 h.0 W W (SameMembers-itself W) g.1 h.1) ∙ sym h.2
 
 -- a target has one build
@@ -68,17 +68,17 @@ over_once (Gives done w) a b s t g h = (g.0 ∙ sym h.0, g.1 ∙ sym h.1)
 over_once (Ends ending output) a b s t g h = (g.0 ∙ sym h.0, g.1 ∙ sym h.1)
 over_once Stuck a b s t g h = absurd g
 
-ran_once : (world : World) (name directory : List ℕ) (ticks : ℕ) (build : TargetBuild) (a b : List ℕ) → Ran name directory ticks world (Some build) a → Ran name directory ticks world (Some build) b → a ≡ b
+ran_once : (world : World) (name directory : List ℕ) (ticks : ℕ) (build : TargetBuild) (a b : List ℕ) → PrintsRun name directory ticks world (Some build) a → PrintsRun name directory ticks world (Some build) b → a ≡ b
 ran_once world name directory ticks build a b (inl g) (inl h) =
     let same : h.0 ≡ g.0 = one_program world.edition (actions_held name world) build h.0 g.0 h.1 g.1 in
     let other = subst (λ (ps : List Package). SourceMeaning ps ticks h.2 h.3) same h.4 in
-    let means = over_once (run g.0 ticks) g.2 h.2 g.3 h.3 (g.4).1 other.1 in
+    let means = over_once (run_program g.0 ticks) g.2 h.2 g.3 h.3 (g.4).1 other.1 in
     g.5 ∙ ap (λ e. run_text name directory e g.3) means.0 ∙ ap (run_text name directory h.2) means.1 ∙ sym h.5
 ran_once world name directory ticks build a b (inl g) (inr h) = absurd (h.0 g.0 g.1)
 ran_once world name directory ticks build a b (inr g) (inl h) = absurd (g.0 h.0 h.1)
 ran_once world name directory ticks build a b (inr g) (inr h) = g.1 ∙ sym h.1
 
-one_ran : (world : World) (name directory : List ℕ) (ticks : ℕ) (build : Option TargetBuild) (a b : List ℕ) → Ran name directory ticks world build a → Ran name directory ticks world build b → a ≡ b
+one_ran : (world : World) (name directory : List ℕ) (ticks : ℕ) (build : Option TargetBuild) (a b : List ℕ) → PrintsRun name directory ticks world build a → PrintsRun name directory ticks world build b → a ≡ b
 one_ran world name directory ticks None a b g h = g ∙ sym h
 one_ran world name directory ticks (Some build) a b g h = ran_once world name directory ticks build a b g h
 
@@ -87,11 +87,11 @@ one_listed world name directory None a b is g h = g ∙ sym h
 one_listed world name directory (Some build) a b is g h =
     g.2 ∙ ap (ids_text name directory) (one_id_rows world.edition (writes_of name world) directory (actions_held name world) build g.0 h.0 is g.1 h.1) ∙ sym h.2
 
-pub one_answer : (command : Command) (world : World) (a b : List ℕ) → Answers command world a → Answers command world b → a ≡ b
+pub one_answer : (command : Command) (world : World) (a b : List ℕ) → Outputs command world a → Outputs command world b → a ≡ b
 one_answer (Build targets) world a b g h = g.2 ∙ ap (builds_text world targets) (one_builds world targets g.0 h.0 g.1 h.1) ∙ sym h.2
 one_answer (Run name directory ticks) world a b g h =
     let same : h.0 ≡ g.0 = one_build world.edition (writes_of name world) directory h.0 g.0 h.1 g.1 in
-    one_ran world name directory ticks g.0 a b g.2 (subst (λ p. Ran name directory ticks world p b) same h.2)
+    one_ran world name directory ticks g.0 a b g.2 (subst (λ p. PrintsRun name directory ticks world p b) same h.2)
 one_answer (Ids name directory) world a b g h =
     let same : h.0 ≡ g.0 = one_build world.edition (writes_of name world) directory h.0 g.0 h.1 g.1 in
     one_listed world name directory g.0 a b g.1 g.2 (subst (λ p. Listed name directory world p b) same h.2)
@@ -154,4 +154,4 @@ one_text_from zero (line ∷ lines) world a b g h =
     g.6 ∙ ap (λ (x : List ℕ). x ++ g.1) now ∙ ap (λ (x : List ℕ). h.0 ++ x) later ∙ sym h.6
 
 pub one_session_text : (edition : Edition) (script a b : List ℕ) → SessionText edition script a → SessionText edition script b → a ≡ b
-one_session_text edition script a b g h = one_text_from 0 _ (opening edition) a b g h
+one_session_text edition script a b g h = one_text_from 0 _ (empty_world edition) a b g h

@@ -14,7 +14,7 @@ use Rattle.ws_register.specs.Sources.{HasFiles}
 use Rattle.ws_action.specs.Actions.{Action}
 use Rattle.ws_action.proofs.Members.{none_in_empty, head_or_later, later, at_head}
 use Rattle.ws_cache.proofs.Laws.{same_action, same_action-Decides}
-use Rattle.ws_replica.specs.Reports.{Fate, ArePackages, actions_of, TargetBuild, IsTargetBuild}
+use Rattle.ws_replica.specs.Reports.{DirectoryOutcome, ArePackages, actions_of, TargetBuild, IsTargetBuild}
 use Rattle.ws_replica.specs.GoodPackages.{AreGoodPackages}
 use Rattle.ws_replica.specs.Programs.{IsGood, IsHeldProgram}
 use Rattle.ws_replica.proofs.OneBuild.{one_packages, agree_refl}
@@ -41,7 +41,7 @@ pub among : (xs : List Action) (a : Action) → Contains xs a ⊎ (Contains xs a
 among [] a = inr (none_in_empty a)
 among (x ∷ xs) a = among_by x xs a (same_action x a) refl (among xs a)
 
-good : (fate : Fate) → IsGood fate ⊎ (IsGood fate → ⊥)
+good : (fate : DirectoryOutcome) → IsGood fate ⊎ (IsGood fate → ⊥)
 good fate = elim (good_or_not fate) [ inl is ↦ inl is | inr bad ↦ inr (λ g. bad g.0 g.1) ]
 
 -- ---- the program

@@ -6,14 +6,14 @@ use Rattle.go_code.specs.Images.{Image}
 use Rattle.go_code.specs.Machine.{MachineMeaning}
 use Rattle.go_translation_laws.specs.Programs.{IsLinked, MakesSense, MeansTheSame}
 use Rattle.go_typed.specs.Trees.{Package}
-use Rattle.go_vm.specs.Outcomes.{Outcome}
+use Rattle.go_vm.specs.Outcomes.{ProgramOutcome}
 use Rattle.ws_version.specs.Writes.{Write}
 use Rattle.ws_register.specs.Sources.{HasFiles}
 use Rattle.ws_action.specs.Actions.{Action}
 use Rattle.ws_replica.specs.GoodPackages.{AreGoodPackages}
 use Rattle.ws_replica.specs.Programs.{IsHeldProgram, IsImage}
 use Rattle.ws_session.proofs.Programs.{held_good}
-use Rattle.ws_session.specs.Standing.{RunOf}
+use Rattle.ws_session.specs.Representation.{RunOf}
 
 pub no_run : (edition : Edition) (directory : List ℕ) (ticks : ℕ) (W : List Write) (E : List Action) → IsImage edition W E directory None → RunOf edition directory ticks W E None
 no_run edition directory ticks W E i = record { build = i.build; are = i.are; ran = λ clear. i.right clear }
@@ -22,7 +22,7 @@ module _ (edition : Edition) (directory : List ℕ) (ticks : ℕ) (W : List Writ
   good : (packages : List Package) → IsHeldProgram edition E i.build packages → AreGoodPackages packages
   good packages held = held_good edition W files directory E i.build i.are packages held
 
-  pub image_runs : ((packages : List Package) (other : Image) → AreGoodPackages packages → IsLinked packages other → MeansTheSame packages other) → (outcome : Outcome) → MachineMeaning image ticks (Ends outcome.ending outcome.output) → RunOf edition directory ticks W E (Some outcome)
+  pub image_runs : ((packages : List Package) (other : Image) → AreGoodPackages packages → IsLinked packages other → MeansTheSame packages other) → (outcome : ProgramOutcome) → MachineMeaning image ticks (Ends outcome.ending outcome.output) → RunOf edition directory ticks W E (Some outcome)
   image_runs same outcome machine = record {
     build = i.build;
     are = i.are;

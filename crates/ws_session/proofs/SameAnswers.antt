@@ -14,19 +14,19 @@ use Rattle.ws_command.specs.Commands.{Command, Nothing, Bad, Create, Write, Remo
 use Rattle.ws_graph.specs.BuildPlan.{Directory}
 use Rattle.ws_map.specs.Kept.{SameMembers}
 use Rattle.ws_register.specs.Edits.{Contents}
-use Rattle.ws_register.specs.Sources.{IsShown}
+use Rattle.ws_register.specs.Sources.{AreGreatestWrites}
 use Rattle.ws_register.proofs.Exists.{some_contents}
 use Rattle.ws_register.proofs.Laws.{one_contents}
-use Rattle.ws_replica.specs.Ids.{IsStanding, IsHeldGood, IsIdRow, AreIdRows}
+use Rattle.ws_replica.specs.Ids.{IsIdStatus, IsHeldGood, IsIdRow, AreIdRows}
 use Rattle.ws_replica.specs.Programs.{IsHeldProgram}
-use Rattle.ws_replica.specs.Reports.{Fate, TargetBuild, IsTargetBuild, action_in, all_actions}
+use Rattle.ws_replica.specs.Reports.{DirectoryOutcome, TargetBuild, IsTargetBuild, action_in, all_actions}
 use Rattle.ws_replica.proofs.OneBuild.{one_build}
 use Rattle.ws_replica.proofs.SomeBuild.{some_build}
-use Rattle.ws_report.specs.declared.Standing.{Standing}
-use Rattle.ws_report.specs.declared.Standing.TheVariants.{NoId, Absent, Held}
+use Rattle.ws_report.specs.declared.IdStatus.{IdStatus}
+use Rattle.ws_report.specs.declared.IdStatus.TheVariants.{NoId, Absent, Held}
 use Rattle.ws_version.specs.Writes.{Write as AWrite}
 use Rattle.ws_session.specs.SameAnswers.{TookTheSame, ReadsTheSame}
-use Rattle.ws_session.specs.World.{World, writes_of, actions_held, held_by, AreBuilds, builds_text, target_report, IsBuild, Ran, Listed, Answers}
+use Rattle.ws_session.specs.World.{World, writes_of, actions_held, held_by, AreBuilds, builds_text, target_report, IsBuild, PrintsRun, Listed, Outputs}
 use Rattle.ws_session.proofs.OneText.{one_answer}
 
 -- ---- members
@@ -98,17 +98,17 @@ same_count E F actions same = same_new (map action_id E) (map action_id F) (map 
 -- ---- rows of ids
 
 module _ (E F : List Action) (same : SameMembers E F) where
-  standing_moves : (I : Type 0) (o : Option Action) (x : Standing) → IsStanding E I o x → IsStanding F I o x
+  standing_moves : (I : Type 0) (o : Option Action) (x : IdStatus) → IsIdStatus E I o x → IsIdStatus F I o x
   standing_moves I None x g = g
   standing_moves I (Some a) NoId g = g
   standing_moves I (Some a) (Absent id) g = (g.0, (λ c. g.1 ((same a).1 c)), g.2)
   standing_moves I (Some a) (Held id) g = (g.0, (same a).0 g.1, g.2)
 
-  module _ (edition : Edition) (build : TargetBuild) (all : List (List ℕ × Standing)) where
-    row_moves : (p : Directory × Fate) (row : List ℕ × Standing) → IsIdRow edition E build all p row → IsIdRow edition F build all p row
+  module _ (edition : Edition) (build : TargetBuild) (all : List (List ℕ × IdStatus)) where
+    row_moves : (p : Directory × DirectoryOutcome) (row : List ℕ × IdStatus) → IsIdRow edition E build all p row → IsIdRow edition F build all p row
     row_moves (d, fate) (path, standing) g = (g.0, standing_moves (All (IsHeldGood build all) d.imports) (action_in edition build.fates d fate) standing g.1)
 
-    rows_move : (pairs : List (Directory × Fate)) (rows : List (List ℕ × Standing)) → AllZip (IsIdRow edition E build all) pairs rows → AllZip (IsIdRow edition F build all) pairs rows
+    rows_move : (pairs : List (Directory × DirectoryOutcome)) (rows : List (List ℕ × IdStatus)) → AllZip (IsIdRow edition E build all) pairs rows → AllZip (IsIdRow edition F build all) pairs rows
     rows_move [] [] h = tt
     rows_move [] (r ∷ rows) h = absurd h
     rows_move (p ∷ pairs) [] h = absurd h
@@ -159,7 +159,7 @@ module _ (v w : World) (edition : w.edition ≡ v.edition) where
       same_count (held_by w targets) (held_by v targets) (all_actions w.edition builds) (held_same targets h) ∙ ap (λ e. compiled_count (held_by v targets) (all_actions e builds)) edition in
       ap (λ n. flat_map (target_report n) (zip targets builds)) count
 
-  ran_moves : (name directory : List ℕ) (ticks : ℕ) (build : Option TargetBuild) (told : List ℕ) → Same name → Ran name directory ticks w build told → Ran name directory ticks v build told
+  ran_moves : (name directory : List ℕ) (ticks : ℕ) (build : Option TargetBuild) (told : List ℕ) → Same name → PrintsRun name directory ticks w build told → PrintsRun name directory ticks v build told
   ran_moves name directory ticks None told same g = g
   ran_moves name directory ticks (Some build) told same (inl (packages, program, ending, output, meaning, is)) =
       let there = subst (λ e. IsHeldProgram e (actions_held name w) build packages) edition program in
@@ -178,13 +178,13 @@ module _ (v w : World) (edition : w.edition ≡ v.edition) where
       let there : AreIdRows v.edition (actions_held name w) build rows = subst (λ e. AreIdRows e (actions_held name w) build rows) edition are in
       (rows, rows_move (actions_held name w) (actions_held name v) same.results v.edition build rows (zip build.directories build.fates) rows there, is)
 
-  shown_moves : (name : List ℕ) (shown : List AWrite) → Same name → IsShown (writes_of name w) shown → IsShown (writes_of name v) shown
+  shown_moves : (name : List ℕ) (shown : List AWrite) → Same name → AreGreatestWrites (writes_of name w) shown → AreGreatestWrites (writes_of name v) shown
   shown_moves name shown same (m, stands, is) =
       let own = some_contents (writes_of name v) in
       let one : m ≡ own.0 = one_contents m own.0 (writes_of name w) (writes_of name v) same.writes stands own.1 in
       (own.0, own.1, is ∙ ap (λ (c : Contents). entries c) one)
 
-  answer_moves : (command : Command) (told : List ℕ) → ReadsTheSame command w v → Answers command w told → Answers command v told
+  answer_moves : (command : Command) (told : List ℕ) → ReadsTheSame command w v → Outputs command w told → Outputs command v told
   answer_moves (Build targets) told same (builds, are, is) = (builds, builds_move targets builds same are, is ∙ text_moves targets builds same)
   answer_moves (Run name directory ticks) told same (build, of, ran) = (build, build_moves name directory build same of, ran_moves name directory ticks build told same ran)
   answer_moves (Ids name directory) told same (build, of, listed) = (build, build_moves name directory build same of, listed_moves name directory build told same listed)
@@ -199,5 +199,5 @@ module _ (v w : World) (edition : w.edition ≡ v.edition) where
   answer_moves Settle told same is = is
   answer_moves (Use edition) told same is = is
 
-pub same_answer : (command : Command) (v w : World) (a b : List ℕ) → v.edition ≡ w.edition → ReadsTheSame command v w → Answers command v a → Answers command w b → a ≡ b
+pub same_answer : (command : Command) (v w : World) (a b : List ℕ) → v.edition ≡ w.edition → ReadsTheSame command v w → Outputs command v a → Outputs command w b → a ≡ b
 same_answer command v w a b edition same g h = one_answer command w a b (answer_moves w v edition command a same g) h

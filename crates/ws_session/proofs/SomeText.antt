@@ -17,7 +17,7 @@ use Rattle.ws_command.specs.ShowPrinting.{show_text}
 use Rattle.std.specs.FinMap.{entries}
 use Rattle.ws_register.proofs.Exists.{some_contents}
 use Rattle.ws_command.specs.Lines.{lines_of}
-use Rattle.ws_session.specs.World.{World, opening, writes_of, actions_held, seeking, using, AreBuilds, after_builds, builds_text, refusals, Accepted, AfterBy, After, Answers, PrintsBy, Prints, IsBuild, Ran, Listed}
+use Rattle.ws_session.specs.World.{World, empty_world, writes_of, actions_held, seeking, using, AreBuilds, after_builds, builds_text, refusals, Accepted, AfterBy, After, Outputs, PrintsBy, Prints, IsBuild, PrintsRun, Listed}
 use Rattle.ws_session.specs.Text.{TextFrom, SessionText}
 use Rattle.ws_replica.proofs.SomeBuild.{some_build}
 use Rattle.ws_session.proofs.Filed.{IsFiled, files_of, filed_after}
@@ -45,14 +45,14 @@ some_builds world (t ∷ targets) =
     more_builds world t targets b.0 rest.0 b.1 rest.1
 
 ran_by : ProgramsEnd → (world : World) (filed : IsFiled world) (name directory : List ℕ) (ticks : ℕ) (build : TargetBuild) (is : IsBuild name directory world (Some build))
-    → Decided world.edition (writes_of name world) (files_of name world filed) directory (actions_held name world) build is → (told : List ℕ) × Ran name directory ticks world (Some build) told
+    → Decided world.edition (writes_of name world) (files_of name world filed) directory (actions_held name world) build is → (told : List ℕ) × PrintsRun name directory ticks world (Some build) told
 ran_by ends world filed name directory ticks build is (inl (packages, program)) =
     let good = held_good world.edition (writes_of name world) (files_of name world filed) directory (actions_held name world) build is packages program in
     let means = ends packages ticks good program.program in
     (run_text name directory means.0 means.1, inl (packages, program, means.0, means.1, means.2, refl))
 ran_by ends world filed name directory ticks build is (inr no_program) = (refused NotBuilt, inr (no_program, refl))
 
-some_ran : ProgramsEnd → (world : World) → IsFiled world → (name directory : List ℕ) (ticks : ℕ) (build : Option TargetBuild) → IsBuild name directory world build → (told : List ℕ) × Ran name directory ticks world build told
+some_ran : ProgramsEnd → (world : World) → IsFiled world → (name directory : List ℕ) (ticks : ℕ) (build : Option TargetBuild) → IsBuild name directory world build → (told : List ℕ) × PrintsRun name directory ticks world build told
 some_ran ends world filed name directory ticks None is = (refused NoPackage, refl)
 some_ran ends world filed name directory ticks (Some build) is =
     ran_by ends world filed name directory ticks build is (program_decided world.edition (writes_of name world) (files_of name world filed) directory (actions_held name world) build is)
@@ -63,7 +63,7 @@ some_listed world name directory (Some build) is =
     let rows = some_id_rows world.edition (writes_of name world) directory (actions_held name world) build is in
     (ids_text name directory rows.0, (rows.0, rows.1, refl))
 
-some_answer : ProgramsEnd → (command : Command) (world : World) → IsFiled world → (told : List ℕ) × Answers command world told
+some_answer : ProgramsEnd → (command : Command) (world : World) → IsFiled world → (told : List ℕ) × Outputs command world told
 some_answer ends (Build targets) world filed = let b = some_builds world targets in (builds_text world targets b.0, (b.0, b.1, refl))
 some_answer ends (Run name directory ticks) world filed =
     let p = some_build world.edition (writes_of name world) directory in
@@ -134,4 +134,4 @@ some_text_from ends zero (line ∷ lines) world filed =
     (now.0 ++ later.0, (now.0, later.0, next.0, now.1, next.1, later.1, refl))
 
 pub some_session_text : ProgramsEnd → (edition : Edition) (script : List ℕ) → (text : List ℕ) × SessionText edition script text
-some_session_text ends edition script = some_text_from ends 0 (lines_of script) (opening edition) tt
+some_session_text ends edition script = some_text_from ends 0 (lines_of script) (empty_world edition) tt

@@ -6,20 +6,20 @@ use Rattle.std.proofs.lemmas.List.Elements.{Contains-append_left, Contains-appen
 use Rattle.std.proofs.lemmas.Grind.{flat_map-append}
 use Rattle.ws_action.specs.Actions.{Action}
 use Rattle.ws_action.specs.Clash.{NoClash, hashed_actions, hashed as hashed_action}
-use Rattle.ws_session.specs.declared.replicas.Named.{Named}
+use Rattle.ws_session.specs.declared.replicas.SessionReplica.{SessionReplica}
 use Rattle.ws_command.specs.declared.refusal.Refusal.{Refusal}
 use Rattle.ws_command.specs.declared.refusal.Refusal.TheVariants.{BadCommand, Unknown, NoPackage}
 use Rattle.go_text.specs.declared.edition.Edition.{Edition}
 use Rattle.ws_session.specs.declared.replicas.Replicas.{Replicas}
 use Rattle.ws_command.specs.Commands.{Command, Nothing, Bad, Create, Write, Remove, Apply, Merge, Settle, Use}
 use Rattle.ws_command.specs.Refusals.{first_of}
-use Rattle.ws_session.specs.World.{World, seeking, using, refusals, AfterBy, After, PrintsBy, Prints, hashed, texts_of_replica}
-use Rattle.ws_session.specs.Standing.{StandFor, AreCounted, AllStand, AreApart, names_in, Settles, Tells, told_of}
+use Rattle.ws_session.specs.World.{World, seeking, using, refusals, AfterBy, After, PrintsBy, Prints, hashed_texts, texts_of_replica}
+use Rattle.ws_session.specs.Representation.{Represents, AreCounted, AllRepresent, AreApart, replica_names, Settles, CommandResult, refusal_text_of}
 use Rattle.ws_session.proofs.Names.{apart_after}
 
 -- what a command that prints no more than its refusal tells
-pub settled_tells : (command : Command) (text : Option (List ℕ)) (world : World) (refusal : Option Refusal) (told : List ℕ) (ns : List Named)
-    → ((t : List ℕ) → t ≡ told_of refusal → PrintsBy refusal command world t) → told ≡ told_of refusal → Settles command text world refusal ns → Tells command text world told ns
+pub settled_tells : (command : Command) (text : Option (List ℕ)) (world : World) (refusal : Option Refusal) (told : List ℕ) (ns : List SessionReplica)
+    → ((t : List ℕ) → t ≡ refusal_text_of refusal → PrintsBy refusal command world t) → told ≡ refusal_text_of refusal → Settles command text world refusal ns → CommandResult command text world told ns
 unfolding After Prints
 settled_tells command text world refusal told ns prints e s = record {
   next = s.next;
@@ -49,55 +49,55 @@ sought_among actions sought world s held (inr c) =
 
 -- so where the texts of a world that looked for actions don't clash, no more do those of these and of what is held in it
 pub clear_sought : (actions sought : List Action) (world : World) → ((s : List ℕ) → Contains (hashed_actions actions) s → Contains (flat_map texts_of_replica world.replicas) s)
-    → NoClash (hashed (seeking world sought)) → NoClash (hashed_actions (actions ++ sought))
-unfolding hashed
+    → NoClash (hashed_texts (seeking world sought)) → NoClash (hashed_actions (actions ++ sought))
+unfolding hashed_texts
 clear_sought actions sought world held clear s t c d q =
     clear s t (sought_among actions sought world s (held s) (either actions sought s c)) (sought_among actions sought world t (held t) (either actions sought t d)) q
 
 pub build_row : (a b c d : Bool) → a ≡ c → b ≡ d → first_of ((not a, Unknown) ∷ (not b, NoPackage) ∷ []) ≡ cond (not c) (Some Unknown) (cond (not d) (Some NoPackage) None)
 build_row a b c d e f = ap (λ z. cond (not z) (Some Unknown) (cond (not b) (Some NoPackage) None)) e ∙ ap (λ z. cond (not c) (Some Unknown) (cond (not z) (Some NoPackage) None)) f
 
-pub prints_nothing : (world : World) (r : Option Refusal) (t : List ℕ) → t ≡ told_of r → PrintsBy r Nothing world t
+pub prints_nothing : (world : World) (r : Option Refusal) (t : List ℕ) → t ≡ refusal_text_of r → PrintsBy r Nothing world t
 prints_nothing world None t e = e
 prints_nothing world (Some r) t e = e
 
-pub prints_bad : (world : World) (r : Option Refusal) (t : List ℕ) → t ≡ told_of r → PrintsBy r Bad world t
+pub prints_bad : (world : World) (r : Option Refusal) (t : List ℕ) → t ≡ refusal_text_of r → PrintsBy r Bad world t
 prints_bad world None t e = e
 prints_bad world (Some r) t e = e
 
-pub prints_create : (name : List ℕ) (world : World) (r : Option Refusal) (t : List ℕ) → t ≡ told_of r → PrintsBy r (Create name) world t
+pub prints_create : (name : List ℕ) (world : World) (r : Option Refusal) (t : List ℕ) → t ≡ refusal_text_of r → PrintsBy r (Create name) world t
 prints_create name world None t e = e
 prints_create name world (Some r) t e = e
 
-pub prints_write : (name path : List ℕ) (lines : ℕ) (world : World) (r : Option Refusal) (t : List ℕ) → t ≡ told_of r → PrintsBy r (Write name path lines) world t
+pub prints_write : (name path : List ℕ) (lines : ℕ) (world : World) (r : Option Refusal) (t : List ℕ) → t ≡ refusal_text_of r → PrintsBy r (Write name path lines) world t
 prints_write name path lines world None t e = e
 prints_write name path lines world (Some r) t e = e
 
-pub prints_merge : (name other : List ℕ) (world : World) (r : Option Refusal) (t : List ℕ) → t ≡ told_of r → PrintsBy r (Merge name other) world t
+pub prints_merge : (name other : List ℕ) (world : World) (r : Option Refusal) (t : List ℕ) → t ≡ refusal_text_of r → PrintsBy r (Merge name other) world t
 prints_merge name other world None t e = e
 prints_merge name other world (Some r) t e = e
 
-pub prints_remove : (name path : List ℕ) (world : World) (r : Option Refusal) (t : List ℕ) → t ≡ told_of r → PrintsBy r (Remove name path) world t
+pub prints_remove : (name path : List ℕ) (world : World) (r : Option Refusal) (t : List ℕ) → t ≡ refusal_text_of r → PrintsBy r (Remove name path) world t
 prints_remove name path world None t e = e
 prints_remove name path world (Some r) t e = e
 
-pub prints_apply : (name path : List ℕ) (counter number : ℕ) (lines : Option ℕ) (world : World) (r : Option Refusal) (t : List ℕ) → t ≡ told_of r → PrintsBy r (Apply name path counter number lines) world t
+pub prints_apply : (name path : List ℕ) (counter number : ℕ) (lines : Option ℕ) (world : World) (r : Option Refusal) (t : List ℕ) → t ≡ refusal_text_of r → PrintsBy r (Apply name path counter number lines) world t
 prints_apply name path counter number lines world None t e = e
 prints_apply name path counter number lines world (Some r) t e = e
 
-pub prints_settle : (world : World) (r : Option Refusal) (t : List ℕ) → t ≡ told_of r → PrintsBy r Settle world t
+pub prints_settle : (world : World) (r : Option Refusal) (t : List ℕ) → t ≡ refusal_text_of r → PrintsBy r Settle world t
 prints_settle world None t e = e
 prints_settle world (Some r) t e = e
 
-pub nothing_settles : (text : Option (List ℕ)) (world : World) (ns : List Named) → AllStand ns world.replicas → Settles Nothing text world None ns
+pub nothing_settles : (text : Option (List ℕ)) (world : World) (ns : List SessionReplica) → AllRepresent ns world.replicas → Settles Nothing text world None ns
 nothing_settles text world ns h = record { refuses = refl; next = world; after = refl; edition = refl; stand = h }
 
-pub bad_settles : (text : Option (List ℕ)) (world : World) (ns : List Named) → AllStand ns world.replicas → Settles Bad text world (Some BadCommand) ns
+pub bad_settles : (text : Option (List ℕ)) (world : World) (ns : List SessionReplica) → AllRepresent ns world.replicas → Settles Bad text world (Some BadCommand) ns
 bad_settles text world ns h = record { refuses = refl; next = world; after = refl; edition = refl; stand = h }
 
 -- commands go by another edition from here on
-pub used : (asked : Command) (edition : Edition) (text : Option (List ℕ)) (world : World) (told : List ℕ) (s : Replicas) → asked ≡ Use edition → told ≡ told_of None → StandFor s world
-    → (next : World) × After asked text world next × (NoClash (hashed next) → Prints asked text world told × StandFor (record s { edition = edition }) next)
+pub used : (asked : Command) (edition : Edition) (text : Option (List ℕ)) (world : World) (told : List ℕ) (s : Replicas) → asked ≡ Use edition → told ≡ refusal_text_of None → Represents s world
+    → (next : World) × After asked text world next × (NoClash (hashed_texts next) → Prints asked text world told × Represents (record s { edition = edition }) next)
 unfolding After Prints
 used asked edition text world told s is e h = (
   using edition world,
@@ -109,13 +109,13 @@ used asked edition text world told s is e h = (
 )
 
 -- what a step owes, of a command that is what was asked
-pub stepped : (s : Replicas) (asked command : Command) (text : Option (List ℕ)) (world : World) (told : List ℕ) → asked ≡ command → s.edition ≡ world.edition → AreApart (names_in world)
-    → (t : Tells command text world told s.named.items) → AreCounted s.wrote s.compiled t.next → (next : World) × After asked text world next × (NoClash (hashed next) → Prints asked text world told × StandFor s next)
+pub stepped : (s : Replicas) (asked command : Command) (text : Option (List ℕ)) (world : World) (told : List ℕ) → asked ≡ command → s.edition ≡ world.edition → AreApart (replica_names world)
+    → (t : CommandResult command text world told s.named.items) → AreCounted s.wrote s.compiled t.next → (next : World) × After asked text world next × (NoClash (hashed_texts next) → Prints asked text world told × Represents s next)
 stepped s asked command text world told e same apart t counted = (
   t.next,
   subst (λ k. After k text world t.next) (sym e) t.after,
   λ clear.
       let p = t.clear clear in
-      let stands : StandFor s t.next = record { edition = same ∙ sym t.edition; replicas = p.1; apart = apart_after command text world t.next t.after apart; kept = counted } in
+      let stands : Represents s t.next = record { edition = same ∙ sym t.edition; replicas = p.1; apart = apart_after command text world t.next t.after apart; kept = counted } in
       (subst (λ k. Prints k text world told) (sym e) p.0, stands),
 )

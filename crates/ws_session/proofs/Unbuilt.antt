@@ -13,10 +13,10 @@ use Rattle.ws_command.specs.declared.refusal.Refusal.{Refusal}
 use Rattle.ws_version.specs.Writes.{Write as AWrite}
 use Rattle.ws_session.specs.Commands.{commands_from, commands_of, hashes_nothing}
 use Rattle.ws_session.specs.Text.{ReachedFrom, IsClear}
-use Rattle.ws_session.specs.World.{World, Replica, opening, replica_at, or_new, writes_of, actions_held, grown, taking, edit_of, removal_of, content_in, refusals, texts_of_replica, hashed, Accepted, AfterBy, After}
+use Rattle.ws_session.specs.World.{World, ReplicaModel, empty_world, replica_at, or_new, writes_of, actions_held, grown_by, taking, edit_of, removal_of, content_in, refusals, texts_of_replica, hashed_texts, Accepted, AfterBy, After}
 
 -- no replica holds a result
-abbrev HoldNothing : List Replica → Type 0
+abbrev HoldNothing : List ReplicaModel → Type 0
 HoldNothing [] = Unit {0}
 HoldNothing (r ∷ rs) = (r.actions ≡ []) × HoldNothing rs
 
@@ -24,14 +24,14 @@ record Unbuilt (world : World) : Type 0 where
   held : HoldNothing world.replicas
   sought : world.sought ≡ []
 
-one_more : (rs : List Replica) (r : Replica) → r.actions ≡ [] → HoldNothing rs → HoldNothing (rs ++ r ∷ [])
+one_more : (rs : List ReplicaModel) (r : ReplicaModel) → r.actions ≡ [] → HoldNothing rs → HoldNothing (rs ++ r ∷ [])
 one_more [] r e h = (e, tt)
 one_more (x ∷ rs) r e h = (h.0, one_more rs r e h.1)
 
 both_empty : (a b : List Action) → a ≡ [] → b ≡ [] → a ++ b ≡ []
 both_empty a b e f = ap (λ (x : List Action). x ++ b) e ∙ f
 
-held_by_name : (name : List ℕ) (rs : List Replica) → HoldNothing rs → (or_new (replica_at name rs)).actions ≡ []
+held_by_name : (name : List ℕ) (rs : List ReplicaModel) → HoldNothing rs → (or_new (replica_at name rs)).actions ≡ []
 held_by_name name [] h = refl
 held_by_name name (r ∷ rs) h = by_name (bytes_eq r.name name) h.0 (held_by_name name rs h.1)
   where
@@ -39,37 +39,37 @@ held_by_name name (r ∷ rs) h = by_name (bytes_eq r.name name) h.0 (held_by_nam
     by_name true e rest = e
     by_name false e rest = rest
 
-takes : (name : List ℕ) (writes : List AWrite) (actions : List Action) (rs : List Replica) → actions ≡ [] → HoldNothing rs → HoldNothing (taking name writes actions rs)
+takes : (name : List ℕ) (writes : List AWrite) (actions : List Action) (rs : List ReplicaModel) → actions ≡ [] → HoldNothing rs → HoldNothing (taking name writes actions rs)
 takes name writes actions [] e h = tt
 takes name writes actions (r ∷ rs) e h = by_name (bytes_eq r.name name) (takes name writes actions rs e h.1)
   where
-    by_name : (b : Bool) → HoldNothing (taking name writes actions rs) → HoldNothing (cond b (grown r writes actions ∷ rs) (r ∷ taking name writes actions rs))
+    by_name : (b : Bool) → HoldNothing (taking name writes actions rs) → HoldNothing (cond b (grown_by r writes actions ∷ rs) (r ∷ taking name writes actions rs))
     by_name true rest = (both_empty r.actions actions h.0 e, h.1)
     by_name false rest = (h.0, rest)
 
-none_together : (rs : List Replica) → HoldNothing rs → flat_map (λ r. r.actions) rs ≡ []
+none_together : (rs : List ReplicaModel) → HoldNothing rs → flat_map (λ r. r.actions) rs ≡ []
 none_together [] h = refl
-none_together (r ∷ rs) h = both_empty r.actions (flat_map (λ (s : Replica). s.actions) rs) h.0 (none_together rs h.1)
+none_together (r ∷ rs) h = both_empty r.actions (flat_map (λ (s : ReplicaModel). s.actions) rs) h.0 (none_together rs h.1)
 
-each_settled : (writes : List AWrite) (actions : List Action) (rs : List Replica) → actions ≡ []
+each_settled : (writes : List AWrite) (actions : List Action) (rs : List ReplicaModel) → actions ≡ []
     → HoldNothing (map (λ r. record { name = r.name; number = r.number; writes = writes; actions = actions }) rs)
 each_settled writes actions [] e = tt
 each_settled writes actions (r ∷ rs) e = (e, each_settled writes actions rs e)
 
-no_texts : (rs : List Replica) → HoldNothing rs → flat_map texts_of_replica rs ≡ []
+no_texts : (rs : List ReplicaModel) → HoldNothing rs → flat_map texts_of_replica rs ≡ []
 no_texts [] h = refl
 no_texts (r ∷ rs) h = ap (λ (a : List Action). hashed_actions a ++ flat_map texts_of_replica rs) h.0 ∙ no_texts rs h.1
 
-hashes_none : (world : World) → Unbuilt world → hashed world ≡ []
-unfolding hashed
+hashes_none : (world : World) → Unbuilt world → hashed_texts world ≡ []
+unfolding hashed_texts
 hashes_none world u = ap (λ (x : List (List ℕ)). x ++ hashed_actions world.sought) (no_texts world.replicas u.held) ∙ ap hashed_actions u.sought
 
 clear_by : (texts : List (List ℕ)) → texts ≡ [] → NoClash texts
 clear_by [] e s t c = absurd (omega (arith, c.1))
 clear_by (x ∷ texts) e s t c = absurd (cc (e))
 
-unbuilt_clear : (world : World) → Unbuilt world → NoClash (hashed world)
-unbuilt_clear world u = clear_by (hashed world) (hashes_none world u)
+unbuilt_clear : (world : World) → Unbuilt world → NoClash (hashed_texts world)
+unbuilt_clear world u = clear_by (hashed_texts world) (hashes_none world u)
 
 moved : (next its : World) → next ≡ its → Unbuilt its → Unbuilt next
 moved next its e u = subst Unbuilt (sym e) u
@@ -110,7 +110,7 @@ second_true : (b c : Bool) → (b && c) ≡ true → c ≡ true
 second_true true c e = e
 second_true false c e = cc (e)
 
-clear_from : (taken : ℕ) (lines : List (List ℕ)) (world other : World) → list_all hashes_nothing (commands_from taken lines) ≡ true → Unbuilt world → ReachedFrom taken lines world other → NoClash (hashed other)
+clear_from : (taken : ℕ) (lines : List (List ℕ)) (world other : World) → list_all hashes_nothing (commands_from taken lines) ≡ true → Unbuilt world → ReachedFrom taken lines world other → NoClash (hashed_texts other)
 unfolding ReachedFrom
 clear_from taken [] world other e u is = unbuilt_clear other (moved other world is u)
 clear_from (suc taken) (line ∷ lines) world other e u is = clear_from taken lines world other e u is
@@ -122,4 +122,4 @@ clear_from zero (line ∷ lines) world other e u (inr (next, is, later)) =
     clear_from (text_lines command) lines next other (second_true (hashes_nothing command) (list_all hashes_nothing rest) e) (after command (text_of (text_lines command) lines) world next here u is) later
 
 pub clear_unbuilt : (edition : Edition) (script : List ℕ) → list_all hashes_nothing (commands_of script) ≡ true → IsClear edition script
-clear_unbuilt edition script e world is = clear_from 0 (lines_of script) (opening edition) world e (record { held = tt; sought = refl }) is
+clear_unbuilt edition script e world is = clear_from 0 (lines_of script) (empty_world edition) world e (record { held = tt; sought = refl }) is

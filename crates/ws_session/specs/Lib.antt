@@ -1,5 +1,5 @@
-pub mod World
-pub mod Standing
-pub mod Text
-pub mod SameAnswers
 pub mod Commands
+pub mod Representation
+pub mod SameAnswers
+pub mod Text
+pub mod World

@@ -4,7 +4,7 @@ use Rattle.go_text.specs.declared.edition.Edition.{Edition}
 use Rattle.ws_action.specs.Clash.{NoClash}
 use Rattle.ws_command.specs.Lines.{lines_of}
 use Rattle.ws_command.specs.Commands.{command_of, text_of, text_lines}
-use Rattle.ws_session.specs.World.{World, opening, hashed, After, Prints}
+use Rattle.ws_session.specs.World.{World, empty_world, hashed_texts, After, Prints}
 
 -- some bytes at the front of a text
 abbrev pub IsBeginning : List ℕ → List ℕ → Type 0
@@ -30,7 +30,7 @@ ReachedFrom zero (line ∷ lines) world other =
 
 -- all that is written for a script, from no replica on
 abbrev pub SessionText : Edition → List ℕ → List ℕ → Type 0
-SessionText edition script told = TextFrom 0 (lines_of script) (opening edition) told
+SessionText edition script told = TextFrom 0 (lines_of script) (empty_world edition) told
 
 -- a beginning of it
 abbrev pub Begun : Edition → List ℕ → List ℕ → Type 0
@@ -38,4 +38,4 @@ Begun edition script front = (text : List ℕ) × SessionText edition script tex
 
 -- No two different texts that the script's session hashes, in any world that it reaches, have one digest.
 abbrev pub IsClear : Edition → List ℕ → Type 0
-IsClear edition script = (world : World) → ReachedFrom 0 (lines_of script) (opening edition) world → NoClash (hashed world)
+IsClear edition script = (world : World) → ReachedFrom 0 (lines_of script) (empty_world edition) world → NoClash (hashed_texts world)

@@ -4,11 +4,11 @@ ghost use Rattle.std.specs.List.{Contains};
 ghost use Rattle.std.specs.Prelude.{◌≡◌, ℕ, List, map, vec_len, Option, None, IfOk, OnOk};
 ghost use Rattle.ws_version_vector.specs.Counts.{AreBelow, AreRaisedAndShared};
 ghost use Rattle.ws_command.specs.Commands.{Write, Remove, Merge, Settle};
-ghost use Rattle.ws_session.specs.Standing.{index_of, text_in, applied_by, SettlesFrom, SettlesIn, SettlesCounted, IsWriteCounted, IsMergeCounted, MergesCounted, SharesCounted};
+ghost use Rattle.ws_session.specs.Representation.{replica_index, command_text, applied_by, SettlesFrom, SettlesIn, SettlesCounted, IsWriteCounted, IsMergeCounted, MergesCounted, SharesCounted};
 
-use crate::replicas::{Named, apply, index_of, remove, write};
+use crate::clock::WriteClock;
+use crate::replicas::{SessionReplica, apply, index_of, remove, write};
 use crate::taking::{merge, settle_all};
-use crate::written::Written;
 use go_text::edition::Edition;
 use std::alloc::{AllocError, Global};
 use std::thread::Threads;
@@ -21,14 +21,14 @@ use ws_version_vector::Vectors;
 pub(crate) fn write_counted(
     alloc: Global,
     edition: Edition,
-    named: &mut Vec<Named>,
-    wrote: &mut Written,
+    named: &mut Vec<SessionReplica>,
+    wrote: &mut WriteClock,
     name: &[u8],
     word: &[u8],
     text: Option<Vec<u8>>,
 ) -> Result<Option<Refusal>, AllocError>
-    ensures settles { IfOk result (λ refusal. (lines : ℕ) → SettlesIn edition (Write name.now word.now lines) (text_in text) named.old refusal named.new) }
-    ensures counted { IfOk result (λ refusal. IsWriteCounted refusal (index_of name.now named.old.items) word.now wrote.old wrote.new) }
+    ensures settles { IfOk result (λ refusal. (lines : ℕ) → SettlesIn edition (Write name.now word.now lines) (command_text text) named.old refusal named.new) }
+    ensures counted { IfOk result (λ refusal. IsWriteCounted refusal (replica_index name.now named.old.items) word.now wrote.old wrote.new) }
 {
     let at = index_of(named.as_slice(), name);
     let refusal = write(alloc, edition, named, name, word, text)?;
@@ -39,13 +39,13 @@ pub(crate) fn write_counted(
 /// A removal of the file at a path by the replica of that name, which is counted.
 pub(crate) fn remove_counted(
     alloc: Global,
-    named: &mut Vec<Named>,
-    wrote: &mut Written,
+    named: &mut Vec<SessionReplica>,
+    wrote: &mut WriteClock,
     name: &[u8],
     word: &[u8],
 ) -> Result<Option<Refusal>, AllocError>
     ensures settles { IfOk result (λ refusal. (text : Option (List ℕ)) → SettlesFrom (Remove name.now word.now) text named.old refusal named.new) }
-    ensures counted { IfOk result (λ refusal. IsWriteCounted refusal (index_of name.now named.old.items) word.now wrote.old wrote.new) }
+    ensures counted { IfOk result (λ refusal. IsWriteCounted refusal (replica_index name.now named.old.items) word.now wrote.old wrote.new) }
 {
     let at = index_of(named.as_slice(), name);
     let refusal = remove(alloc, named, name, word)?;
@@ -57,16 +57,16 @@ pub(crate) fn remove_counted(
 pub(crate) fn apply_counted(
     alloc: Global,
     edition: Edition,
-    named: &mut Vec<Named>,
-    wrote: &mut Written,
+    named: &mut Vec<SessionReplica>,
+    wrote: &mut WriteClock,
     name: &[u8],
     word: &[u8],
     version: Version,
     lines: Option<u64>,
     text: Option<Vec<u8>>,
 ) -> Result<Option<Refusal>, AllocError>
-    ensures settles { IfOk result (λ refusal. SettlesIn edition (applied_by name.now word.now version lines) (text_in text) named.old refusal named.new) }
-    ensures counted { IfOk result (λ refusal. IsWriteCounted refusal (index_of name.now named.old.items) word.now wrote.old wrote.new) }
+    ensures settles { IfOk result (λ refusal. SettlesIn edition (applied_by name.now word.now version lines) (command_text text) named.old refusal named.new) }
+    ensures counted { IfOk result (λ refusal. IsWriteCounted refusal (replica_index name.now named.old.items) word.now wrote.old wrote.new) }
 {
     let at = index_of(named.as_slice(), name);
     let refusal = apply(alloc, edition, named, name, word, version, lines, text)?;
@@ -77,8 +77,8 @@ pub(crate) fn apply_counted(
 /// The replica of one name takes what that of the other holds, which is counted.
 pub(crate) fn merge_counted(
     alloc: Global,
-    named: &mut Vec<Named>,
-    wrote: &mut Written,
+    named: &mut Vec<SessionReplica>,
+    wrote: &mut WriteClock,
     compiled: &mut Vectors,
     name: &[u8],
     other: &[u8],
@@ -100,8 +100,8 @@ pub(crate) fn merge_counted(
 pub(crate) fn settle_counted<R: Threads + Sync>(
     rt: &R,
     alloc: Global,
-    named: &mut Vec<Named>,
-    wrote: &mut Written,
+    named: &mut Vec<SessionReplica>,
+    wrote: &mut WriteClock,
     compiled: &mut Vectors,
 ) -> Result<(), AllocError>
     ensures settles { OnOk result (SettlesCounted Settle wrote.old compiled.old named.old None named.new) }
@@ -118,7 +118,7 @@ pub(crate) fn settle_counted<R: Threads + Sync>(
 
 /// Counts a write to a path of the replica at an index, if it took one.
 fn count_write(
-    wrote: &mut Written,
+    wrote: &mut WriteClock,
     at: Option<usize>,
     path: &[u8],
     refusal: &Option<Refusal>,

@@ -6,7 +6,7 @@ ghost use Rattle.ws_command.specs.Commands.{Command};
 ghost use Rattle.ws_session.specs.Commands.{commands_of, hashes_nothing};
 ghost use Rattle.ws_session.specs.SameAnswers.{ReadsTheSame};
 ghost use Rattle.ws_session.specs.Text.{SessionText, IsClear};
-ghost use Rattle.ws_session.specs.World.{World, Answers};
+ghost use Rattle.ws_session.specs.World.{World, Outputs};
 
 use ws_replica::law::law_held_program_means_its_sources;
 
@@ -25,7 +25,7 @@ pub fn law_some_session()
 /// A replica answers `show`, `build`, `ids` and `run` by what it took, and by nothing else: where a
 /// command reads the same in two worlds of one edition, it prints the same in both.
 pub fn law_same_answers()
-    ensures { (command : Command) (v w : World) (a b : List ℕ) → v.edition ≡ w.edition → ReadsTheSame command v w → Answers command v a → Answers command w b → a ≡ b }
+    ensures { (command : Command) (v w : World) (a b : List ℕ) → v.edition ≡ w.edition → ReadsTheSame command v w → Outputs command v a → Outputs command w b → a ≡ b }
 {}
 
 /// A script that builds nothing is clear: no text is hashed for it. So what is written for it is its

@@ -1,10 +1,10 @@
-//! A session: the world that its commands make, and the replicas that stand for it.
+//! Sessions: the world that commands make, and the replicas that stand for it.
 #![tactic(auto)]
 
+pub mod clock;
 mod counting;
 pub mod law;
 pub mod replicas;
 mod taking;
-pub mod written;
 
 pub use ws_replica::{Gate, Plain};

@@ -6,18 +6,18 @@ ghost use Rattle.ws_path.specs.Paths.{file_name};
 ghost use Rattle.ws_replica.specs.Builds.{target_of};
 ghost use Rattle.ws_report.specs.Reports.{id_row};
 ghost use Rattle.ws_path.specs.Paths.{is_path};
-ghost use Rattle.ws_session.specs.Standing.{StandFor, index_of, told_of, ChangedAt, Edited, Removal, Applied, asked_of, AreTargets, AreBuiltBy, words_of, report_line, HasNoFilesAt, RanAt, AreIdsAt, IsContent, TellsFrom, text_in, applied_by, SettlesFrom, SettlesIn, TellsStill, TellsIn, IsSourceIn, IsTopAt};
-ghost use Rattle.ws_session.specs.World.{World, opening, is_text, is_path_word, hashed, After, Prints};
+ghost use Rattle.ws_session.specs.Representation.{Represents, replica_index, refusal_text_of, ChangedAt, Edited, Removal, Applied, asked_of, AreTargets, AreBuiltBy, target_words, report_line, HasNoFilesAt, RanAt, AreIdsAt, IsContent, BuildResult, command_text, applied_by, SettlesFrom, SettlesIn, ResultUnchanged, ResultIn, IsSourceIn, IsTopAt};
+ghost use Rattle.ws_session.specs.World.{World, empty_world, is_path_word, hashed_texts, After, Prints};
 ghost use Rattle.ws_action.specs.Clash.{NoClash};
-ghost use Rattle.ws_command.specs.Seen.{seen};
+ghost use Rattle.ws_command.specs.Views.{command_view};
 ghost use Rattle.ws_command.specs.Commands.{Create, Write, Remove, Apply, Build, Run, Ids, Show};
 
+use crate::clock::WriteClock;
 use crate::counting::{
     apply_counted, count_build, holders_of, merge_counted, remove_counted, settle_counted,
     write_counted,
 };
 use crate::taking::{parted, rejoined};
-use crate::written::Written;
 use go_text::edition::Edition;
 use go_text::source::Source;
 use go_text::text::{Text, TextError};
@@ -42,7 +42,7 @@ const MOST_REPLICAS: usize = 64;
 
 /// A replica of a session, with its name and the number of its edits.
 #[derive(Drop)]
-pub struct Named {
+pub struct SessionReplica {
     pub(crate) name: Vec<u8>,
     pub(crate) number: u32,
     pub(crate) replica: Replica,
@@ -54,14 +54,14 @@ pub struct Named {
 pub struct Replicas {
     alloc: Global,
     edition: Edition,
-    named: Vec<Named>,
-    wrote: Written,
+    named: Vec<SessionReplica>,
+    wrote: WriteClock,
     compiled: Vectors,
 }
 
 /// Where the replica of that name stands.
-pub(crate) fn index_of(named: &[Named], name: &[u8]) -> Option<usize>
-    ensures value { result ≡ index_of name.now named.now }
+pub(crate) fn index_of(named: &[SessionReplica], name: &[u8]) -> Option<usize>
+    ensures value { result ≡ replica_index name.now named.now }
     ensures within { IfSome result (λ index. index < length named.now) }
 {
     for (i, one) in named.iter().enumerate() {
@@ -102,7 +102,7 @@ fn source_of(
     path: &str,
     text: Option<Vec<u8>>,
 ) -> Result<Option<Source>, AllocError>
-    ensures { IfOk result (λ source. IsSourceIn edition path.now (text_in text) source) }
+    ensures { IfOk result (λ source. IsSourceIn edition path.now (command_text text) source) }
 {
     let Some(bytes) = text else {
         return Ok(None);
@@ -119,7 +119,11 @@ fn source_of(
 }
 
 /// A new replica, whose number is one more than the number of those before it.
-fn create(alloc: Global, named: &mut Vec<Named>, name: &[u8]) -> Result<Option<Refusal>, AllocError>
+fn create(
+    alloc: Global,
+    named: &mut Vec<SessionReplica>,
+    name: &[u8],
+) -> Result<Option<Refusal>, AllocError>
     ensures { IfOk result (λ refusal. (text : Option (List ℕ)) → SettlesFrom (Create name.now) text named.old refusal named.new) }
 {
     if named.len() >= MOST_REPLICAS {
@@ -131,7 +135,7 @@ fn create(alloc: Global, named: &mut Vec<Named>, name: &[u8]) -> Result<Option<R
     let number = named.len() as u32 + 1;
     let name = Vec::from_slice(alloc, name)?;
     let replica = Replica::new(alloc);
-    named.push(Named {
+    named.push(SessionReplica {
         name,
         number,
         replica,
@@ -140,7 +144,7 @@ fn create(alloc: Global, named: &mut Vec<Named>, name: &[u8]) -> Result<Option<R
 }
 
 /// The greatest counter that the replica at an index holds.
-fn greatest_at(named: &Vec<Named>, index: usize) -> u64
+fn greatest_at(named: &Vec<SessionReplica>, index: usize) -> u64
     requires { index < vec_len named.now }
     ensures { IsTopAt named.now index result }
 {
@@ -150,7 +154,7 @@ fn greatest_at(named: &Vec<Named>, index: usize) -> u64
 /// The replica at an index edits a path.
 fn edit_at(
     alloc: Global,
-    named: &mut Vec<Named>,
+    named: &mut Vec<SessionReplica>,
     index: usize,
     path: &str,
     source: Source,
@@ -171,12 +175,12 @@ fn edit_at(
 pub(crate) fn write(
     alloc: Global,
     edition: Edition,
-    named: &mut Vec<Named>,
+    named: &mut Vec<SessionReplica>,
     name: &[u8],
     word: &[u8],
     text: Option<Vec<u8>>,
 ) -> Result<Option<Refusal>, AllocError>
-    ensures { IfOk result (λ refusal. (lines : ℕ) → SettlesIn edition (Write name.now word.now lines) (text_in text) named.old refusal named.new) }
+    ensures { IfOk result (λ refusal. (lines : ℕ) → SettlesIn edition (Write name.now word.now lines) (command_text text) named.old refusal named.new) }
 {
     let Some(index) = index_of(named.as_slice(), name) else {
         return Ok(Some(Refusal::Unknown));
@@ -197,7 +201,7 @@ pub(crate) fn write(
 /// The replica at an index removes the file at a path; or why it doesn't.
 fn remove_at(
     alloc: Global,
-    named: &mut Vec<Named>,
+    named: &mut Vec<SessionReplica>,
     index: usize,
     path: &str,
 ) -> Result<Option<Refusal>, AllocError>
@@ -220,7 +224,7 @@ fn remove_at(
 /// A removal of the file at a path by the replica of that name.
 pub(crate) fn remove(
     alloc: Global,
-    named: &mut Vec<Named>,
+    named: &mut Vec<SessionReplica>,
     name: &[u8],
     word: &[u8],
 ) -> Result<Option<Refusal>, AllocError>
@@ -237,7 +241,7 @@ pub(crate) fn remove(
 
 /// The replica at an index takes a write to a path.
 fn apply_at(
-    named: &mut Vec<Named>,
+    named: &mut Vec<SessionReplica>,
     index: usize,
     path: FilePath,
     held: Held,
@@ -273,14 +277,14 @@ fn content_of(
 pub(crate) fn apply(
     alloc: Global,
     edition: Edition,
-    named: &mut Vec<Named>,
+    named: &mut Vec<SessionReplica>,
     name: &[u8],
     word: &[u8],
     version: Version,
     lines: Option<u64>,
     text: Option<Vec<u8>>,
 ) -> Result<Option<Refusal>, AllocError>
-    ensures { IfOk result (λ refusal. SettlesIn edition (applied_by name.now word.now version lines) (text_in text) named.old refusal named.new) }
+    ensures { IfOk result (λ refusal. SettlesIn edition (applied_by name.now word.now version lines) (command_text text) named.old refusal named.new) }
 {
     let Some(index) = index_of(named.as_slice(), name) else {
         return Ok(Some(Refusal::Unknown));
@@ -298,8 +302,8 @@ pub(crate) fn apply(
 }
 
 /// What the replica of that name holds, and what is printed of it.
-fn show(alloc: Global, named: &Vec<Named>, name: &[u8]) -> Result<Vec<u8>, AllocError>
-    ensures { IfOk result (λ told. TellsStill (Show name.now) named.now told.items) }
+fn show(alloc: Global, named: &Vec<SessionReplica>, name: &[u8]) -> Result<Vec<u8>, AllocError>
+    ensures { IfOk result (λ told. ResultUnchanged (Show name.now) named.now told.items) }
 {
     let Some(index) = index_of(named.as_slice(), name) else {
         return refused(alloc, Refusal::Unknown);
@@ -311,7 +315,7 @@ fn show(alloc: Global, named: &Vec<Named>, name: &[u8]) -> Result<Vec<u8>, Alloc
 /// What is asked to be built, by the numbers of the replicas; or why it isn't.
 fn targets_of<'a>(
     alloc: Global,
-    named: &[Named],
+    named: &[SessionReplica],
     asked: &[(&'a [u8], &'a [u8])],
 ) -> Result<Result<Vec<Target<'a>>, Refusal>, AllocError>
     ensures { IfOk result (λ targets. AreTargets named.now (map asked_of asked.now) targets) }
@@ -341,7 +345,7 @@ fn build_all<R: Threads + Wait + Sync, G: Gate>(
     edition: Edition,
     workers: u64,
     gate: &G,
-    named: &mut Vec<Named>,
+    named: &mut Vec<SessionReplica>,
     targets: &[Target<'_>],
     holders: &[usize],
 ) -> Result<Option<Vec<Report>>, AllocError>
@@ -372,12 +376,12 @@ fn build_all<R: Threads + Wait + Sync, G: Gate>(
 /// What the reports of a build's targets print, one behind the other.
 fn all_lines(
     alloc: Global,
-    named: &[Named],
+    named: &[SessionReplica],
     targets: &[Target<'_>],
     reports: &[Report],
 ) -> Result<Vec<u8>, AllocError>
     requires { All (λ t. t.replica < length named.now) targets.now }
-    ensures { IfOk result (λ told. told.items ≡ flat_map report_line (zip (map (words_of named.now) (map target_of targets.now)) reports.now)) }
+    ensures { IfOk result (λ told. told.items ≡ flat_map report_line (zip (map (target_words named.now) (map target_of targets.now)) reports.now)) }
 {
     let mut told = Vec::new(alloc);
     for (target, report) in targets.iter().zip(reports) {
@@ -395,12 +399,12 @@ fn build_targets<R: Threads + Wait + Sync, G: Gate>(
     edition: Edition,
     workers: u64,
     gate: &G,
-    named: &mut Vec<Named>,
+    named: &mut Vec<SessionReplica>,
     compiled: &mut Vectors,
     asked: &[(&[u8], &[u8])],
 ) -> Result<Vec<u8>, AllocError>
     requires { 0 < workers }
-    ensures { IfOk result (λ told. TellsFrom edition (map asked_of asked.now) named.old compiled.old told.items named.new compiled.new) }
+    ensures { IfOk result (λ told. BuildResult edition (map asked_of asked.now) named.old compiled.old told.items named.new compiled.new) }
 {
     let targets = match targets_of(alloc, named.as_slice(), asked)? {
         Ok(targets) => targets,
@@ -436,7 +440,7 @@ fn run_at<R: Threads + Sync>(
     rt: &R,
     alloc: Global,
     edition: Edition,
-    named: &Vec<Named>,
+    named: &Vec<SessionReplica>,
     index: usize,
     directory: &str,
     ticks: u64,
@@ -464,12 +468,12 @@ fn run_target<R: Threads + Sync>(
     rt: &R,
     alloc: Global,
     edition: Edition,
-    named: &Vec<Named>,
+    named: &Vec<SessionReplica>,
     name: &[u8],
     word: &[u8],
     ticks: u64,
 ) -> Result<Vec<u8>, AllocError>
-    ensures { IfOk result (λ told. TellsIn edition (Run name.now word.now ticks) named.now told.items) }
+    ensures { IfOk result (λ told. ResultIn edition (Run name.now word.now ticks) named.now told.items) }
 {
     let Some(index) = index_of(named.as_slice(), name) else {
         return refused(alloc, Refusal::Unknown);
@@ -490,7 +494,7 @@ fn ids_at<R: Threads + Sync>(
     rt: &R,
     alloc: Global,
     edition: Edition,
-    named: &Vec<Named>,
+    named: &Vec<SessionReplica>,
     index: usize,
     directory: &str,
 ) -> Result<Vec<IdLine>, BuildError>
@@ -506,11 +510,11 @@ fn ids_target<R: Threads + Sync>(
     rt: &R,
     alloc: Global,
     edition: Edition,
-    named: &Vec<Named>,
+    named: &Vec<SessionReplica>,
     name: &[u8],
     word: &[u8],
 ) -> Result<Vec<u8>, AllocError>
-    ensures { IfOk result (λ told. TellsIn edition (Ids name.now word.now) named.now told.items) }
+    ensures { IfOk result (λ told. ResultIn edition (Ids name.now word.now) named.now told.items) }
 {
     let Some(index) = index_of(named.as_slice(), name) else {
         return refused(alloc, Refusal::Unknown);
@@ -527,7 +531,7 @@ fn ids_target<R: Threads + Sync>(
 
 /// What is printed for a command that prints no more than its refusal.
 fn told(alloc: Global, refusal: Option<Refusal>) -> Result<Vec<u8>, AllocError>
-    ensures { IfOk result (λ line. line.items ≡ told_of refusal) }
+    ensures { IfOk result (λ line. line.items ≡ refusal_text_of refusal) }
 {
     match refusal {
         None => Ok(Vec::new(alloc)),
@@ -538,13 +542,13 @@ fn told(alloc: Global, refusal: Option<Refusal>) -> Result<Vec<u8>, AllocError>
 impl Replicas {
     /// No replica yet.
     pub fn new(alloc: Global, edition: Edition) -> Replicas
-        ensures stands { StandFor result (opening edition) }
+        ensures stands { Represents result (empty_world edition) }
     {
         Replicas {
             alloc,
             edition,
             named: Vec::new(alloc),
-            wrote: Written::new(alloc),
+            wrote: WriteClock::new(alloc),
             compiled: Vectors::new(alloc),
         }
     }
@@ -561,12 +565,12 @@ impl Replicas {
         text: Option<Vec<u8>>,
     ) -> Result<Vec<u8>, AllocError>
         requires { 0 < workers }
-        ensures { let command = seen asked.now in
+        ensures { let command = command_view asked.now in
             let given = option_map (λ v. v.items) text in
-            (world : World) → StandFor self.old world → IfOk result (λ told.
+            (world : World) → Represents self.old world → IfOk result (λ told.
             (next : World) × After command given world next
-            × (NoClash (hashed next) →
-            Prints command given world told.items × StandFor self.new next)) }
+            × (NoClash (hashed_texts next) →
+            Prints command given world told.items × Represents self.new next)) }
     {
         let alloc = self.alloc;
         match asked {

@@ -3,11 +3,11 @@ ghost use Rattle.std.specs.Prelude.{◌≡◌, ◌≢◌, ◌<◌, vec_len, repl
 ghost use Rattle.std.specs.List.{All, flat_map};
 ghost use Rattle.ws_replica.specs.Holdings.{ReplicaStandsFor};
 ghost use Rattle.ws_command.specs.Commands.{Merge, Settle};
-ghost use Rattle.ws_session.specs.Standing.{AllStand, AreCounted, SettlesCounted, ChangedAt, MergedFrom, TakesNews, HoldsAllOf, HoldsWritesOf, HoldsKnownWrites, replicas_of, labels_of};
+ghost use Rattle.ws_session.specs.Representation.{AllRepresent, AreCounted, SettlesCounted, ChangedAt, MergedFrom, TakesNews, HoldsAllOf, HoldsWritesOf, HoldsKnownWrites, replicas_of, labels_of};
 ghost use Rattle.ws_session.specs.World.{World};
 
-use crate::replicas::{Named, index_of};
-use crate::written::Written;
+use crate::clock::WriteClock;
+use crate::replicas::{SessionReplica, index_of};
 use std::alloc::{AllocError, Global};
 use std::mem;
 use std::thread::Threads;
@@ -38,7 +38,7 @@ fn take_news(
 /// The replica at an index takes what is news of what the replica at another holds.
 fn merge_at(
     alloc: Global,
-    named: &mut Vec<Named>,
+    named: &mut Vec<SessionReplica>,
     mine: usize,
     theirs: usize,
     writes: News,
@@ -59,8 +59,8 @@ fn merge_at(
 /// The replica of one name takes what that of the other holds.
 pub(crate) fn merge(
     alloc: Global,
-    named: &mut Vec<Named>,
-    wrote: &Written,
+    named: &mut Vec<SessionReplica>,
+    wrote: &WriteClock,
     compiled: &Vectors,
     name: &[u8],
     other: &[u8],
@@ -86,7 +86,7 @@ pub(crate) fn merge(
 /// The names and numbers of replicas, and the replicas, each in its order.
 pub(crate) fn parted(
     alloc: Global,
-    named: Vec<Named>,
+    named: Vec<SessionReplica>,
 ) -> Result<(Vec<(Vec<u8>, u32)>, Vec<Replica>), AllocError>
     ensures labels { IfOk result (λ parts. parts.0.items ≡ labels_of named.items) }
     ensures replicas { IfOk result (λ parts. parts.1.items ≡ replicas_of named.items) }
@@ -94,7 +94,7 @@ pub(crate) fn parted(
     let mut labels = Vec::new(alloc);
     let mut replicas = Vec::new(alloc);
     for one in named {
-        let Named {
+        let SessionReplica {
             name,
             number,
             replica,
@@ -110,7 +110,7 @@ pub(crate) fn rejoined(
     alloc: Global,
     labels: Vec<(Vec<u8>, u32)>,
     replicas: Vec<Replica>,
-) -> Result<Vec<Named>, AllocError>
+) -> Result<Vec<SessionReplica>, AllocError>
     requires { vec_len labels ≡ vec_len replicas }
     ensures labels { IfOk result (λ named. labels_of named.items ≡ labels.items) }
     ensures replicas { IfOk result (λ named. replicas_of named.items ≡ replicas.items) }
@@ -121,7 +121,7 @@ pub(crate) fn rejoined(
         let Some((name, number)) = labels.next() else {
             unreachable!();
         };
-        named.push(Named {
+        named.push(SessionReplica {
             name,
             number,
             replica,
@@ -134,7 +134,7 @@ pub(crate) fn rejoined(
 fn joined_of<R: Threads + Sync>(
     rt: &R,
     alloc: Global,
-    named: &Vec<Named>,
+    named: &Vec<SessionReplica>,
     tops: &[usize],
 ) -> Result<Replica, AllocError>
     requires { All (λ t. t < vec_len named.now) tops.now }
@@ -168,8 +168,8 @@ fn copies_of(alloc: Global, replica: &Replica, count: usize) -> Result<Vec<Repli
 /// has all that the replica at `first` wrote, and every result of the others.
 fn with_writes(
     alloc: Global,
-    named: &Vec<Named>,
-    wrote: &Written,
+    named: &Vec<SessionReplica>,
+    wrote: &WriteClock,
     results: &Replica,
     first: usize,
     writers: &[usize],
@@ -194,8 +194,8 @@ fn with_writes(
 /// The same, where some replica has results.
 fn with_known_writes(
     alloc: Global,
-    named: &Vec<Named>,
-    wrote: &Written,
+    named: &Vec<SessionReplica>,
+    wrote: &WriteClock,
     results: &Replica,
     builders: &[usize],
     writers: &[usize],
@@ -214,16 +214,16 @@ fn with_known_writes(
 fn together<R: Threads + Sync>(
     rt: &R,
     alloc: Global,
-    named: &Vec<Named>,
-    wrote: &Written,
+    named: &Vec<SessionReplica>,
+    wrote: &WriteClock,
     compiled: &Vectors,
 ) -> Result<Replica, AllocError>
-    ensures { IfOk result (λ joined. (world : World) → AllStand named.now.items world.replicas → AreCounted wrote.now compiled.now world
+    ensures { IfOk result (λ joined. (world : World) → AllRepresent named.now.items world.replicas → AreCounted wrote.now compiled.now world
         → ReplicaStandsFor joined (flat_map (λ r. r.writes) world.replicas) (flat_map (λ r. r.actions) world.replicas)) }
 {
     let count = named.len();
-    let writers = wrote.counts.tops(count)?;
-    let builders = compiled.tops(count)?;
+    let writers = wrote.counts.maximal(count)?;
+    let builders = compiled.maximal(count)?;
     let results = joined_of(rt, alloc, named, &builders)?;
     if let Some(joined) = with_known_writes(alloc, named, wrote, &results, &builders, &writers)? {
         return Ok(joined);
@@ -237,8 +237,8 @@ fn together<R: Threads + Sync>(
 pub(crate) fn settle_all<R: Threads + Sync>(
     rt: &R,
     alloc: Global,
-    named: &mut Vec<Named>,
-    wrote: &Written,
+    named: &mut Vec<SessionReplica>,
+    wrote: &WriteClock,
     compiled: &Vectors,
 ) -> Result<(), AllocError>
     ensures { OnOk result (SettlesCounted Settle wrote.now compiled.now named.old None named.new) }

@@ -1,4 +1,4 @@
--- Several threads may use a shared board, and a hand may go to another thread: so may what they hold, type by type.
+-- Several threads may use a shared board, and a worker may go to another thread: so may what they hold, type by type.
 use denote.RattleType.{RattleType}
 use denote.Struct.Declared as declared
 use denote.Param.Send.{IsSend, IsSync, struct_sync, recorded_sync, sendable}
@@ -10,7 +10,7 @@ use Rattle.ws_shared.specs.declared.tally.Desk.{Ghosts}
 use Rattle.ws_shared.proofs.tally.Totals.TheSendSync as totals
 use Rattle.ws_shared.proofs.tally.Shares.TheSendSync as shares
 use Rattle.ws_shared.specs.contracts.locked.Locked as locked
-use Rattle.ws_shared.specs.contracts.hand.SharedHand as hand
+use Rattle.ws_shared.specs.contracts.worker.Worker as hand
 use Rattle.ws_shared.specs.contracts.board.SharedBoard as shared
 
 locked_send : (L : RattleType) (g : Ghosts L.Denot) → IsSend (locked.the_row L g)

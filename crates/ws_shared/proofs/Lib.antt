@@ -1,3 +1,3 @@
 pub mod Crossing
-pub mod HandFacts
-pub mod Keeping
+mod HandFacts
+mod Keeping

@@ -1,4 +1,4 @@
 pub mod Counts
-pub mod Hands
+pub mod Workers
 pub use Rattle.ws_board.specs.Ends
 pub use Rattle.ws_board.specs.Work

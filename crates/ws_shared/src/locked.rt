@@ -1,18 +1,18 @@
 //! What lies under the lock.
-ghost use Rattle.std.specs.Prelude.{◌≡◌, ◌<◌, ◌+◌, IfOk, IfErr, OnOk, OnErr};
+ghost use Rattle.std.specs.Prelude.{◌≡◌, ◌<◌, IfOk, IfErr, OnOk, OnErr};
 ghost use Rattle.std.specs.Bool.{OnTrue, OnFalse};
 ghost use Rattle.std.specs.List.{count_by};
 ghost use Rattle.ws_board.specs.declared.work.Event.TheVariants as event;
 ghost use Rattle.ws_board.specs.Machine.{is_open};
 ghost use Rattle.ws_board.specs.Calls.{IsFresh, TakeStep};
 ghost use Rattle.ws_shared.specs.Counts.{none_made, noted, counts_of};
-ghost use Rattle.ws_board.specs.Ends.{AddsOwn, Comes};
-ghost use Rattle.ws_shared.specs.Hands.{with_taken, AreActionsOf, IsOwn};
+ghost use Rattle.ws_board.specs.Ends.{AddsOwn, MayBeResult};
+ghost use Rattle.ws_shared.specs.Workers.{with_taken, AreActionsOf, IsOwn};
 
 use crate::tally::{Books, Desk, Tally};
 use std::alloc::AllocError;
 use std::marker::Model;
-use ws_board::{Board, Entry, Event, Hand, Taken, Task};
+use ws_board::{Board, Entry, Event, Taken, Task, WorkerId};
 
 /// A board, and the books of its events: the board was opened as its type says, its history has as
 /// many events of each kind as the books, each action is of its job's work, and what was added to its
@@ -25,7 +25,7 @@ pub(super) struct Locked<L: Desk> {
 
 impl<L: Desk> Model for Locked<L> {
     ghost use Rattle.ws_board.specs.Work as work;
-    ghost use Rattle.ws_shared.specs.Hands as hands;
+    ghost use Rattle.ws_shared.specs.Workers as hands;
 
     ghost Value = { work.Seen };
 
@@ -33,7 +33,7 @@ impl<L: Desk> Model for Locked<L> {
 
     ghost view = { λ a. a.board };
 
-    ghost invariant = { λ a. hands.IsKept L.opening a.books a.board };
+    ghost invariant = { λ a. hands.BoardInvariant L.opening a.books a.board };
 }
 
 // Counts the event of what a take answered, if it was one.
@@ -61,7 +61,7 @@ impl<L: Desk> Locked<L> {
     }
 
     /// The board's take, counted.
-    pub(super) fn take(&mut self, hand: &Hand, mine: &mut Tally<L>) -> Result<Taken, AllocError>
+    pub(super) fn take(&mut self, hand: &WorkerId, mine: &mut Tally<L>) -> Result<Taken, AllocError>
         requires { 0 < mine.old.parts }
         ensures step { IfOk result (λ taken. TakeStep hand.now taken self.old self.new) }
         ensures formed { AreActionsOf L.opening.jobs self.new.state.standings.actions }
@@ -74,18 +74,18 @@ impl<L: Desk> Locked<L> {
         Ok(taken)
     }
 
-    /// The board's finish, counted, if the hand runs the task. Where it doesn't, or for want of
+    /// The board's finish, counted, if the worker runs the task. Where it doesn't, or for want of
     /// memory, the `Err` gives both back and nothing happened.
     pub(super) fn finish(
         &mut self,
-        hand: &Hand,
+        hand: &WorkerId,
         mine: &mut Tally<L>,
         task: Task,
         entry: Entry,
     ) -> Result<(), (Task, Entry)>
         requires part { 0 < mine.old.parts }
         requires fits { entry ≡ task.action }
-        requires own { Comes L.opening task.action }
+        requires own { MayBeResult L.opening task.action }
         ensures ok { OnOk result (mine.new ≡ noted mine.old (event.Finish hand.now task.job)) }
         ensures back { IfErr result (λ back. (back.0 ≡ task) × (back.1 ≡ entry)) }
         ensures err { OnErr result (mine.new ≡ mine.old) }
@@ -99,8 +99,8 @@ impl<L: Desk> Locked<L> {
         Ok(())
     }
 
-    /// The board's back, counted, if the hand runs the task. Where it doesn't, the task is spent.
-    pub(super) fn back(&mut self, hand: &Hand, mine: &mut Tally<L>, task: Task) -> bool
+    /// The board's back, counted, if the worker runs the task. Where it doesn't, the task is spent.
+    pub(super) fn back(&mut self, hand: &WorkerId, mine: &mut Tally<L>, task: Task) -> bool
         requires { 0 < mine.old.parts }
         ensures back { OnTrue result (mine.new ≡ noted mine.old (event.Back hand.now task.job)) }
         ensures still { OnFalse result (mine.new ≡ mine.old) }

@@ -1,6 +1,6 @@
-//! What a hand knows of the events that it made, by a ledger for each kind.
+//! What a worker knows of the events that it made, by a ledger for each kind.
 ghost use Rattle.std.specs.Prelude.{◌≡◌, ◌+◌, ◌<◌};
-ghost use Rattle.ws_shared.specs.Counts.{none_made, counted, noted};
+ghost use Rattle.ws_shared.specs.Counts.{none_made, count_event, noted};
 
 use std::marker::{Brand, Model, PhantomData};
 use std::sync::ledger::{Blank, Book, Ledger, Share};
@@ -9,9 +9,9 @@ use ws_board::Event;
 /// Which board it is: its ledgers, and what it was opened with. Each call of a program picks it.
 pub trait Desk {
     ghost use Rattle.ws_board.specs.Work.{Opening};
-    ghost use Rattle.ws_shared.specs.Counts.{Names};
+    ghost use Rattle.ws_shared.specs.Counts.{LedgerNames};
 
-    ghost names: { Names };
+    ghost names: { LedgerNames };
 
     ghost opening: { Opening };
 }
@@ -82,7 +82,7 @@ impl Model for Blanks {
     ghost use Rattle.std.specs.Prelude.{◌≡◌};
     ghost use Rattle.ws_shared.specs.Counts as counts;
 
-    ghost Value = { counts.Names };
+    ghost Value = { counts.LedgerNames };
 
     ghost coded = { counts.names_code };
 
@@ -92,7 +92,7 @@ impl Model for Blanks {
 }
 
 impl Blanks {
-    /// Ledgers for that many hands.
+    /// Ledgers for that many workers.
     pub fn new(hands: u64) -> Blanks
         ensures { result.hands ≡ hands }
     {
@@ -232,7 +232,7 @@ impl<L: Desk> Books<L> {
     /// Counts an event, in the share of who made it.
     pub(super) fn add(&mut self, mine: &mut Tally<L>, event: Event)
         requires { 0 < mine.old.parts }
-        ensures total { self.new ≡ counted self.old event }
+        ensures total { self.new ≡ count_event self.old event }
         ensures mine { mine.new ≡ noted mine.old event }
     {
         match event {

@@ -1,5 +1,5 @@
 pub mod Kept
 pub mod Logged
-pub mod Reading
+mod Reading
 pub mod Told
-pub mod Tops
+mod Tops

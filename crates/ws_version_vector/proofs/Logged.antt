@@ -7,8 +7,8 @@ use Rattle.std.proofs.lemmas.List.{length_push, get_or_push, get_or_append_left,
 use Rattle.std.proofs.lemmas.List.Elements.{Contains-push, Contains-push_cases, Contains-append_left}
 use Rattle.std.proofs.Common.{refl, sym, ap, subst, ◌∙◌, inl, inr, arith}
 use Rattle.ws_version_vector.specs.Counts.{count_at}
-use Rattle.ws_version_vector.specs.Keyed.{Log, log_at, IsKeyOf, HasKeys, AreKeysBetween, IsPushed, IsLogged, AreLogged, HasNewsAt}
-use Rattle.ws_version_vector.specs.Told.{IsKept}
+use Rattle.ws_version_vector.specs.Keyed.{Log, log_at, IsKeyOf, HasKeys, AreKeysBetween, IsPushed, IsLogged, AreLogged, HasNewsAtKeys}
+use Rattle.ws_version_vector.specs.Taken.{VectorInvariant}
 use Rattle.ws_version_vector.proofs.Reading.{past_reads}
 use Rattle.ws_version_vector.proofs.Told.{grown, grown_at, grown_other}
 
@@ -74,8 +74,8 @@ module _ {A : Type 0} (key_of : A → List ℕ) where
       sym key_at.2 ∙ h.keyed (n - log.0) a key_at.1 (subst (λ z. Contains z a) (sym read) c)
 
   -- what the second took and the first didn't has one of the keys between their counts
-  pub news_between : (lists : ℕ → List (List A)) (logs : List Log) (i j : ℕ) (c d : List ℕ) (V W : List A) (keys : List (List ℕ)) → AreLogged key_of lists logs → IsKept lists i c V → IsKept lists j d W
-      → AreKeysBetween logs c d keys → HasNewsAt key_of keys V W
+  pub news_between : (lists : ℕ → List (List A)) (logs : List Log) (i j : ℕ) (c d : List ℕ) (V W : List A) (keys : List (List ℕ)) → AreLogged key_of lists logs → VectorInvariant lists i c V → VectorInvariant lists j d W
+      → AreKeysBetween logs c d keys → HasNewsAtKeys key_of keys V W
   news_between lists logs i j c d V W keys h kept others between a w =
       let told = others.told a w in
       let o : ℕ = told.0 in

@@ -4,7 +4,7 @@ use Rattle.std.proofs.Math.ListN.{set}
 use Rattle.std.proofs.lemmas.List.{get_or-set_same, get_or-set_other}
 use Rattle.std.proofs.lemmas.Bool.{cases_eq, cases_lt, eqb-true, eq-eqb}
 use Rattle.std.proofs.Common.{refl, sym, ap, subst, ◌∙◌, inl, inr, arith}
-use Rattle.ws_version_vector.specs.Counts.{count_at, IsBelow, IsMost, AreFirst, is_among}
+use Rattle.ws_version_vector.specs.Counts.{count_at, IsBelow, IsMost, AreFirstNumbers, is_among}
 
 -- one more that is read as what is missing
 pub push_reads : {X : Type 0} (xs : List X) (d : X) (j : ℕ) → slice_index_or (xs ++ d ∷ []) j d ≡ slice_index_or xs j d
@@ -86,7 +86,7 @@ among_one n k e = or_left (n == k) false (eq-eqb n k e)
 of_one : (n k : ℕ) → is_among k (n ∷ []) ≡ true → n ≡ k
 of_one n k e = or_either (n == k) false e (λ t. eqb-true n k t) (λ f. cc)
 
-pub first_more : (n : ℕ) (ks : List ℕ) → AreFirst n ks → AreFirst (n + 1) (ks ++ n ∷ [])
+pub first_more : (n : ℕ) (ks : List ℕ) → AreFirstNumbers n ks → AreFirstNumbers (n + 1) (ks ++ n ∷ [])
 first_more n ks h k = (
   λ lt. among_append ks n k ∙ elim (cases_eq n k) [
     | inl e ↦ or_right (is_among k ks) (is_among k (n ∷ [])) (among_one n k e)
@@ -95,5 +95,5 @@ first_more n ks h k = (
   λ e. or_either (is_among k ks) (is_among k (n ∷ [])) (sym (among_append ks n k) ∙ e) (λ old. let lt = (h k).1 old in omega (arith, lt)) (λ new. let is = of_one n k new in omega (arith, is)),
 )
 
-pub first_none : AreFirst 0 []
+pub first_none : AreFirstNumbers 0 []
 first_none k = (λ lt. absurd (omega (arith, lt)), λ e. cc)

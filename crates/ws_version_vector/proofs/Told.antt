@@ -6,7 +6,7 @@ use Rattle.std.proofs.lemmas.List.Elements.{Contains-append_left}
 use Rattle.std.proofs.lemmas.Bool.{cases_eq, cases_lt, eqb-true, eq-eqb, false_from_ne_true}
 use Rattle.std.proofs.Common.{refl, sym, ap, subst, ◌∙◌, inl, inr, arith, length-append}
 use Rattle.ws_version_vector.specs.Counts.{count_at, counts_at, IsBelow, IsMost, IsRaised, is_among, greatest_count}
-use Rattle.ws_version_vector.specs.Told.{IsTold}
+use Rattle.ws_version_vector.specs.Taken.{IsCounted}
 
 max_left : (m n : ℕ) → n ≤ m → max m n ≡ m
 max_left m n le = omega (arith, le)
@@ -34,10 +34,10 @@ pub take_longer : {A : Type 0} (m n : ℕ) (l : List A) (a : A) → m ≤ n → 
 take_longer m n l a le c = of_take m (take n l) a (subst (λ z. Contains z a) (sym (take-take m n l le)) c)
 
 module _ {A : Type 0} where
-  pub told_below : (lists : ℕ → List (List A)) (c d : List ℕ) (a : A) → IsBelow c d → IsTold lists c a → IsTold lists d a
+  pub told_below : (lists : ℕ → List (List A)) (c d : List ℕ) (a : A) → IsBelow c d → IsCounted lists c a → IsCounted lists d a
   told_below lists c d a le t = (t.0, t.1, take_longer (count_at t.0 c) (count_at t.0 d) (lists t.0) t.1 (le t.0) t.2, t.3)
 
-  pub of_most : (lists : ℕ → List (List A)) (c d e : List ℕ) (a : A) → IsMost c d e → IsTold lists e a → IsTold lists c a ⊎ IsTold lists d a
+  pub of_most : (lists : ℕ → List (List A)) (c d e : List ℕ) (a : A) → IsMost c d e → IsCounted lists e a → IsCounted lists c a ⊎ IsCounted lists d a
   of_most lists c d e a most t = elim (cases_lt (count_at t.0 c) (count_at t.0 d)) [
     | inl lt ↦ inr (t.0, t.1, subst (λ n. Contains (take n (lists t.0)) t.1) (most t.0 ∙ max_right (count_at t.0 c) (count_at t.0 d) lt) t.2, t.3)
     | inr ge ↦ inl (t.0, t.1, subst (λ n. Contains (take n (lists t.0)) t.1) (most t.0 ∙ max_left (count_at t.0 c) (count_at t.0 d) ge) t.2, t.3)

@@ -5,7 +5,7 @@ use Rattle.std.proofs.lemmas.Bool.{cases_eq}
 use Rattle.std.proofs.lemmas.List.{take_all, take_more}
 use Rattle.std.proofs.lemmas.List.Elements.{Contains-append_left, Contains-append_right, Contains-append_cases, Contains-push, Contains-push_cases}
 use Rattle.std.proofs.Common.{sym, subst, ◌∙◌, inl, inr, arith}
-use Rattle.ws_version_vector.specs.Counts.{counts_at, IsBelow, AreBelow, AreTops}
+use Rattle.ws_version_vector.specs.Counts.{counts_at, IsBelow, AreBelow, AreMaximal}
 
 pub below_itself : (c : List ℕ) → IsBelow c c
 below_itself c j = omega arith
@@ -70,10 +70,10 @@ next_none all at tops f k c = elim (head_or_later at tops k c) [
   | inr later ↦ (k, later, below_itself (counts_at k all))
 ]
 
-pub tops_none : (all : List (List ℕ)) → AreTops all 0 []
+pub tops_none : (all : List (List ℕ)) → AreMaximal all 0 []
 tops_none all k lt = absurd (omega (arith, lt))
 
-pub tops_more : (all : List (List ℕ)) (n : ℕ) (tops next : List ℕ) → AreTops all n tops → AreBelow all (n ∷ tops) next → AreTops all (n + 1) next
+pub tops_more : (all : List (List ℕ)) (n : ℕ) (tops next : List ℕ) → AreMaximal all n tops → AreBelow all (n ∷ tops) next → AreMaximal all (n + 1) next
 tops_more all n tops next h below k lt = elim (cases_eq n k) [
   | inl e ↦ below k (subst (λ z. Contains (n ∷ tops) z) e (Contains-append_left (n ∷ []) tops n (Contains-push [] n)))
   | inr ne ↦

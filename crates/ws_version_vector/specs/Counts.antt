@@ -54,8 +54,8 @@ AreRaisedAndShared (k ∷ ks) old new =
     (middle : List (List ℕ)) × (counts : List ℕ) × IsRaised k (counts_at k old) counts × ChangedAt k old middle counts × AreShared (k ∷ ks) middle new
 
 -- the numbers below one
-abbrev pub AreFirst : ℕ → List ℕ → Type 0
-AreFirst n ks = (k : ℕ) → (k < n → is_among k ks ≡ true) × (is_among k ks ≡ true → k < n)
+abbrev pub AreFirstNumbers : ℕ → List ℕ → Type 0
+AreFirstNumbers n ks = (k : ℕ) → (k < n → is_among k ks ≡ true) × (is_among k ks ≡ true → k < n)
 
 -- what one replica has that another lacks
 abbrev pub IsNews : List ℕ → List ℕ → News → Type 0
@@ -68,5 +68,5 @@ abbrev pub AreBelow : List (List ℕ) → List ℕ → List ℕ → Type 0
 AreBelow all ks tops = (k : ℕ) → Contains ks k → (t : ℕ) × Contains tops t × IsBelow (counts_at k all) (counts_at t all)
 
 -- some of the first replicas have all that any of the first has
-abbrev pub AreTops : List (List ℕ) → ℕ → List ℕ → Type 0
-AreTops all n tops = (k : ℕ) → k < n → (t : ℕ) × Contains tops t × IsBelow (counts_at k all) (counts_at t all)
+abbrev pub AreMaximal : List (List ℕ) → ℕ → List ℕ → Type 0
+AreMaximal all n tops = (k : ℕ) → k < n → (t : ℕ) × Contains tops t × IsBelow (counts_at k all) (counts_at t all)

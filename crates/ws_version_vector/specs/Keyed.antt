@@ -42,5 +42,5 @@ abbrev pub AreLogged : {A : Type 0} → (A → List ℕ) → (ℕ → List (List
 AreLogged {A} key_of lists logs = (j : ℕ) → IsLogged key_of (lists j) (log_at j logs)
 
 -- what the second set has and the first lacks has one of these keys
-abbrev pub HasNewsAt : {A : Type 0} → (A → List ℕ) → List (List ℕ) → List A → List A → Type 0
-HasNewsAt {A} key_of keys V W = (a : A) → Contains W a → Contains V a ⊎ Contains keys (key_of a)
+abbrev pub HasNewsAtKeys : {A : Type 0} → (A → List ℕ) → List (List ℕ) → List A → List A → Type 0
+HasNewsAtKeys {A} key_of keys V W = (a : A) → Contains W a → Contains V a ⊎ Contains keys (key_of a)

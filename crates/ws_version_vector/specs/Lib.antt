@@ -1,3 +1,3 @@
 pub mod Counts
 pub mod Keyed
-pub mod Told
+pub mod Taken

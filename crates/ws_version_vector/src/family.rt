@@ -2,7 +2,7 @@
 
 ghost use Rattle.std.specs.Prelude.{◌≡◌, ◌<◌, ◌⊎◌, ◌∷◌, ℕ, length, true, false, [], List, OnOk, IfOk};
 ghost use Rattle.std.specs.List.{Contains};
-ghost use Rattle.ws_version_vector.specs.Counts.{count_at, counts_at, IsBelow, IsMost, IsRaised, IsNews, ChangedAt, AreShared, AreRaisedAndShared, AreFirst, AreBelow, AreTops, greatest_count, is_among};
+ghost use Rattle.ws_version_vector.specs.Counts.{count_at, counts_at, IsBelow, IsMost, IsRaised, IsNews, ChangedAt, AreShared, AreRaisedAndShared, AreFirstNumbers, AreBelow, AreMaximal, greatest_count, is_among};
 
 use crate::vector::{News, VersionVector, count, is_below, news_of};
 use std::alloc::{AllocError, Global};
@@ -102,7 +102,7 @@ impl Vectors {
     /// The first replicas, of which there are so many, took what they have together. An `Err` is
     /// for want of memory.
     pub fn settle(&mut self, count: usize) -> Result<(), AllocError>
-        ensures { OnOk result ((ks : List ℕ) × AreFirst count ks × AreShared ks self.old self.new) }
+        ensures { OnOk result ((ks : List ℕ) × AreFirstNumbers count ks × AreShared ks self.old self.new) }
     {
         let mut numbers = Vec::with_capacity(self.alloc, count)?;
         for number in 0..count {
@@ -113,8 +113,8 @@ impl Vectors {
 
     /// Those of the first replicas that have together what the first have. An `Err` is for want of
     /// memory.
-    pub fn tops(&self, count: usize) -> Result<Vec<usize>, AllocError>
-        ensures tops { IfOk result (λ tops. AreTops self.now count tops.items) }
+    pub fn maximal(&self, count: usize) -> Result<Vec<usize>, AllocError>
+        ensures tops { IfOk result (λ tops. AreMaximal self.now count tops.items) }
         ensures within { IfOk result (λ tops. (t : ℕ) → Contains tops.items t → t < count) }
     {
         let mut tops = Vec::new(self.alloc);

@@ -5,55 +5,55 @@ use Rattle.std.specs.List.{flat_map, list_any}
 use Rattle.std.proofs.lemmas.Bool.{cases_Bool, eqb-true}
 use Rattle.go_text.specs.declared.place.Place.{Place}
 use Rattle.go_text.specs.Places.{place_at, mark_size}
-use Rattle.go_ast.specs.Trees.{Name, TypeExpr, Expr, Exprs, no_exprs, some_exprs, ConstSpec, VarSpec, TypeSpec, constants, variables, types, TopLevel, declared, function, File}
+use Rattle.go_ast.specs.Trees.{Name, TypeExpr, Expression, ExpressionList, no_exprs, some_exprs, ConstSpec, VarSpec, TypeSpec, constants, variables, types, TopLevel, declared, function, File}
 use Rattle.go_text.specs.declared.edition.Edition.{Edition}
 use Rattle.go_ast.specs.Parse.{IsParse, Derived}
 use Rattle.go_ast.specs.Tokens.{lexemes}
 use Rattle.go_scope.specs.Specifications.{meant}
-use Rattle.go_objects.specs.Objects.{Form, constant, valued_variable, Object, paired, begin_of, other_object, unpaired, constants_of, in_group, typed_object, result_objects, uncounted, variables_of, type_object, objects_in, objects_from}
+use Rattle.go_objects.specs.Objects.{Form, constant, valued_variable, DeclaredObject, paired, begin_of, other_object, unpaired, constants_of, in_group, typed_object, result_objects, uncounted, variables_of, type_object, objects_in, objects_from}
 use Rattle.go_package.specs.Faults.{is_declared_by}
 use Rattle.go_package_laws.specs.Whole.{AreParsed}
 use Rattle.go_package_laws.proofs.Completeness.Places.{places_differ, lexes_rise}
 use Rattle.go_package_laws.proofs.Completeness.Spreads.{top_names, Placed, file_placed}
 
 -- no name stands at the place of one before it in its file
-abbrev pub AreApart : List Object → List Object → Type 0
+abbrev pub AreApart : List DeclaredObject → List DeclaredObject → Type 0
 AreApart before [] = Unit {0}
 AreApart before (o ∷ os) = (list_any (λ b. is_declared_by o.file o.name (Some b)) before ≡ false) × AreApart (before ++ o ∷ []) os
 
 -- ---- objects of names
 
 -- objects of a file that have some of these names, in their order
-abbrev Sub : ℕ → List Name → List Object → Type 0
+abbrev Sub : ℕ → List Name → List DeclaredObject → Type 0
 Sub file ns [] = Unit {0}
 Sub file [] (o ∷ os) = ⊥
 Sub file (n ∷ ns) (o ∷ os) = ((o.file ≡ file) × (o.name ≡ n) × Sub file ns os) ⊎ Sub file ns (o ∷ os)
 
-skip : (file : ℕ) (n : Name) (ns : List Name) (os : List Object) → Sub file ns os → Sub file (n ∷ ns) os
+skip : (file : ℕ) (n : Name) (ns : List Name) (os : List DeclaredObject) → Sub file ns os → Sub file (n ∷ ns) os
 skip file n ns [] h = tt
 skip file n ns (o ∷ os) h = inr h
 
-skip_all : (file : ℕ) (ns ms : List Name) (os : List Object) → Sub file ms os → Sub file (ns ++ ms) os
+skip_all : (file : ℕ) (ns ms : List Name) (os : List DeclaredObject) → Sub file ms os → Sub file (ns ++ ms) os
 skip_all file [] ms os h = h
 skip_all file (n ∷ ns) ms os h = skip file n (ns ++ ms) os (skip_all file ns ms os h)
 
-sub_both : (file : ℕ) (ns ms : List Name) (os ps : List Object) → Sub file ns os → Sub file ms ps → Sub file (ns ++ ms) (os ++ ps)
+sub_both : (file : ℕ) (ns ms : List Name) (os ps : List DeclaredObject) → Sub file ns os → Sub file ms ps → Sub file (ns ++ ms) (os ++ ps)
 sub_both file ns ms [] ps h k = skip_all file ns ms ps k
 sub_both file [] ms (o ∷ os) ps h k = absurd h
 sub_both file (n ∷ ns) ms (o ∷ os) ps (inl h) k = inl (h.0, h.1, sub_both file ns ms os ps h.2 k)
 sub_both file (n ∷ ns) ms (o ∷ os) ps (inr h) k = inr (sub_both file ns ms (o ∷ os) ps h k)
 
-sub_others : (file : ℕ) (all : List Name) (of : Option TypeExpr) (es : Exprs) (ns : List Name) → Sub file ns (map (other_object file all of es) ns)
+sub_others : (file : ℕ) (all : List Name) (of : Option TypeExpr) (es : ExpressionList) (ns : List Name) → Sub file ns (map (other_object file all of es) ns)
 sub_others file all of es [] = tt
 sub_others file all of es (n ∷ ns) = inl (refl, refl, sub_others file all of es ns)
 
-sub_unpaired : (file : ℕ) (of : Option TypeExpr) (es : Exprs) (ns : List Name) → Sub file ns (unpaired file of es ns)
+sub_unpaired : (file : ℕ) (of : Option TypeExpr) (es : ExpressionList) (ns : List Name) → Sub file ns (unpaired file of es ns)
 sub_unpaired file of es ns = sub_others file ns of es ns
 
-abbrev made : ℕ → List Name → (Expr → Form) → Name → Expr → Object
+abbrev made : ℕ → List Name → (Expression → Form) → Name → Expression → DeclaredObject
 made file all form n e = record { file = file; begins = begin_of all n; name = n; form = form e }
 
-sub_paired : (file : ℕ) (all : List Name) (form : Expr → Form) (ns : List Name) (es : Exprs) (os : List Object) → paired (made file all form) ns es ≡ Some os → Sub file ns os
+sub_paired : (file : ℕ) (all : List Name) (form : Expression → Form) (ns : List Name) (es : ExpressionList) (os : List DeclaredObject) → paired (made file all form) ns es ≡ Some os → Sub file ns os
 sub_paired file all form [] no_exprs os is = (let same : [] ≡ os = cc in subst (Sub file []) same tt)
 sub_paired file all form [] (some_exprs e es) os is = absurd cc
 sub_paired file all form (n ∷ ns) no_exprs os is = absurd cc
@@ -65,7 +65,7 @@ sub_paired file all form (n ∷ ns) (some_exprs e es) os is =
           subst (Sub file (n ∷ ns)) same (inl (refl, refl, sub_paired file all form ns es rest at)))
     ] refl is
 
-either : (file : ℕ) (ns : List Name) (o : Option (List Object)) (os : List Object) → ((xs : List Object) → o ≡ Some xs → Sub file ns xs) → Sub file ns os → Sub file ns (unwrap_or o os)
+either : (file : ℕ) (ns : List Name) (o : Option (List DeclaredObject)) (os : List DeclaredObject) → ((xs : List DeclaredObject) → o ≡ Some xs → Sub file ns xs) → Sub file ns os → Sub file ns (unwrap_or o os)
 either file ns None os f g = g
 either file ns (Some xs) os f g = f xs refl
 
@@ -74,7 +74,7 @@ sub_constants file iota s =
     either file s.names (paired (made file s.names (λ e. constant s.type e iota)) s.names s.values) (unpaired file s.type s.values s.names)
     (λ xs is. sub_paired file s.names (λ e. constant s.type e iota) s.names s.values xs is) (sub_unpaired file s.type s.values s.names)
 
-meant_names : (before : ConstSpec) (ns : List Name) (of : Option TypeExpr) (es : Exprs) → (meant before (record { names = ns; type = of; values = es })).names ≡ ns
+meant_names : (before : ConstSpec) (ns : List Name) (of : Option TypeExpr) (es : ExpressionList) → (meant before (record { names = ns; type = of; values = es })).names ≡ ns
 meant_names before ns of no_exprs = refl
 meant_names before ns of (some_exprs e es) = refl
 
@@ -89,16 +89,16 @@ sub_typed : (file : ℕ) (all : List Name) (of : TypeExpr) (ns : List Name) → 
 sub_typed file all of [] = tt
 sub_typed file all of (n ∷ ns) = inl (refl, refl, sub_typed file all of ns)
 
-sub_results : (file : ℕ) (all : List Name) (number : ℕ) (e : Expr) (ns : List Name) → Sub file ns (result_objects file all number e ns)
+sub_results : (file : ℕ) (all : List Name) (number : ℕ) (e : Expression) (ns : List Name) → Sub file ns (result_objects file all number e ns)
 sub_results file all number e [] = tt
 sub_results file all number e (n ∷ ns) = inl (refl, refl, sub_results file all (suc number) e ns)
 
-sub_uncounted : (file : ℕ) (ns : List Name) (es : Exprs) → Sub file ns (uncounted file ns es)
+sub_uncounted : (file : ℕ) (ns : List Name) (es : ExpressionList) → Sub file ns (uncounted file ns es)
 sub_uncounted file ns no_exprs = sub_unpaired file None no_exprs ns
 sub_uncounted file ns (some_exprs e no_exprs) = sub_results file ns 0 e ns
 sub_uncounted file ns (some_exprs e (some_exprs f es)) = sub_unpaired file None (some_exprs e (some_exprs f es)) ns
 
-sub_variables : (file : ℕ) (ns : List Name) (of : Option TypeExpr) (es : Exprs) → Sub file ns (variables_of file (record { names = ns; type = of; values = es }))
+sub_variables : (file : ℕ) (ns : List Name) (of : Option TypeExpr) (es : ExpressionList) → Sub file ns (variables_of file (record { names = ns; type = of; values = es }))
 sub_variables file ns None es =
     either file ns (paired (made file ns valued_variable) ns es) (uncounted file ns es) (λ xs is. sub_paired file ns valued_variable ns es xs is) (sub_uncounted file ns es)
 sub_variables file ns (Some of) es = sub_typed file ns of ns
@@ -124,33 +124,33 @@ sub_tops file (top ∷ tops) = sub_both file (top_names top) (flat_map top_names
 -- ---- places
 
 -- objects of a file stand at bytes of its text, each behind those before it
-abbrev Stand : List ℕ → ℕ → ℕ → List Object → Type 0
+abbrev Stand : List ℕ → ℕ → ℕ → List DeclaredObject → Type 0
 Stand text file at [] = Unit {0}
 Stand text file at (o ∷ os) = (o.file ≡ file) × (k : ℕ) × (at ≤ k) × (k < length text) × (o.name.place ≡ place_at text k) × Stand text file (suc k) os
 
-stand_from : (text : List ℕ) (file a b : ℕ) (os : List Object) → a ≤ b → Stand text file b os → Stand text file a os
+stand_from : (text : List ℕ) (file a b : ℕ) (os : List DeclaredObject) → a ≤ b → Stand text file b os → Stand text file a os
 stand_from text file a b [] le h = tt
 stand_from text file a b (o ∷ os) le (same, k, l, within, place, rest) = (same, k, omega (arith, le, l), within, place, rest)
 
-sub_stand : (text : List ℕ) (file at : ℕ) (ns : List Name) (os : List Object) → Sub file ns os → Placed text at ns → Stand text file at os
+sub_stand : (text : List ℕ) (file at : ℕ) (ns : List Name) (os : List DeclaredObject) → Sub file ns os → Placed text at ns → Stand text file at os
 sub_stand text file at ns [] h p = tt
 sub_stand text file at [] (o ∷ os) h p = absurd h
 sub_stand text file at (n ∷ ns) (o ∷ os) (inl h) (k, le, within, place, rest) = (h.0, k, le, within, ap (λ (m : Name). m.place) h.1 ∙ place, sub_stand text file (suc k) ns os h.2 rest)
 sub_stand text file at (n ∷ ns) (o ∷ os) (inr h) (k, le, within, place, rest) = stand_from text file at (suc k) (o ∷ os) (omega (arith, le)) (sub_stand text file (suc k) ns (o ∷ os) h rest)
 
 -- an object of an earlier file, or of this one at an earlier byte
-abbrev Before : List ℕ → ℕ → ℕ → Object → Type 0
+abbrev Before : List ℕ → ℕ → ℕ → DeclaredObject → Type 0
 Before text file at b = (b.file < file) ⊎ ((b.file ≡ file) × (j : ℕ) × (mark_size text ≤ j) × (j < at) × (b.name.place ≡ place_at text j))
 
-abbrev AllOf : (Object → Type 0) → List Object → Type 0
+abbrev AllOf : (DeclaredObject → Type 0) → List DeclaredObject → Type 0
 AllOf P [] = Unit {0}
 AllOf P (o ∷ os) = P o × AllOf P os
 
-all_mapped : (P Q : Object → Type 0) → ((o : Object) → P o → Q o) → (os : List Object) → AllOf P os → AllOf Q os
+all_mapped : (P Q : DeclaredObject → Type 0) → ((o : DeclaredObject) → P o → Q o) → (os : List DeclaredObject) → AllOf P os → AllOf Q os
 all_mapped P Q f [] h = tt
 all_mapped P Q f (o ∷ os) h = (f o h.0, all_mapped P Q f os h.1)
 
-all_more : (P : Object → Type 0) (os : List Object) (o : Object) → AllOf P os → P o → AllOf P (os ++ o ∷ [])
+all_more : (P : DeclaredObject → Type 0) (os : List DeclaredObject) (o : DeclaredObject) → AllOf P os → P o → AllOf P (os ++ o ∷ [])
 all_more P [] o h k = (k, tt)
 all_more P (p ∷ os) o h k = (h.0, all_more P os o h.1 k)
 
@@ -161,7 +161,7 @@ both_true false b h = absurd cc
 same_place : (p q : Place) → p.line ≡ q.line → p.column ≡ q.column → p ≡ q
 same_place p q l c = ap (λ (x : ℕ). record { line = x; column = p.column }) l ∙ ap (λ (x : ℕ). record { line = q.line; column = x }) c
 
-not_declared : (text : List ℕ) (file k : ℕ) (o b : Object) → o.file ≡ file → k < length text → o.name.place ≡ place_at text k → Before text file k b → is_declared_by o.file o.name (Some b) ≡ false
+not_declared : (text : List ℕ) (file k : ℕ) (o b : DeclaredObject) → o.file ≡ file → k < length text → o.name.place ≡ place_at text k → Before text file k b → is_declared_by o.file o.name (Some b) ≡ false
 not_declared text file k o b same within place before = elim (cases_Bool (is_declared_by o.file o.name (Some b))) [
   | inr not_so ↦ not_so
   | inl is ↦ absurd (
@@ -175,21 +175,21 @@ not_declared text file k o b same within place before = elim (cases_Bool (is_dec
       ])
 ]
 
-none_declared : (text : List ℕ) (file k : ℕ) (o : Object) (before : List Object) → o.file ≡ file → k < length text → o.name.place ≡ place_at text k → AllOf (Before text file k) before
+none_declared : (text : List ℕ) (file k : ℕ) (o : DeclaredObject) (before : List DeclaredObject) → o.file ≡ file → k < length text → o.name.place ≡ place_at text k → AllOf (Before text file k) before
     → list_any (λ b. is_declared_by o.file o.name (Some b)) before ≡ false
 none_declared text file k o [] same within place h = refl
 none_declared text file k o (b ∷ bs) same within place h = (let one = not_declared text file k o b same within place h.0 in rw one (none_declared text file k o bs same within place h.1))
 
-further : (text : List ℕ) (file a b : ℕ) → a ≤ b → (o : Object) → Before text file a o → Before text file b o
+further : (text : List ℕ) (file a b : ℕ) → a ≤ b → (o : DeclaredObject) → Before text file a o → Before text file b o
 further text file a b le o (inl lt) = inl lt
 further text file a b le o (inr (same, j, above, below, place)) = inr (same, j, above, omega (arith, le, below), place)
 
-record FileApart (text : List ℕ) (file : ℕ) (before os : List Object) : Type 0 where
+record FileApart (text : List ℕ) (file : ℕ) (before os : List DeclaredObject) : Type 0 where
   apart : AreApart before os
   last : ℕ
   all : AllOf (Before text file last) (before ++ os)
 
-apart_file : (text : List ℕ) (file at : ℕ) → mark_size text ≤ at → (before os : List Object) → AllOf (Before text file at) before → Stand text file at os → FileApart text file before os
+apart_file : (text : List ℕ) (file at : ℕ) → mark_size text ≤ at → (before os : List DeclaredObject) → AllOf (Before text file at) before → Stand text file at os → FileApart text file before os
 apart_file text file at above before [] h s = record { apart = tt; last = at; all = subst (AllOf (Before text file at)) (sym (append-nil before)) h }
 apart_file text file at above before (o ∷ os) h (same, k, le, within, place, rest) =
     let here = all_mapped (Before text file at) (Before text file k) (further text file at k le) before h in
@@ -202,11 +202,11 @@ apart_file text file at above before (o ∷ os) h (same, k, le, within, place, r
       all = subst (AllOf (Before text file others.last)) (append_assoc before (o ∷ []) os) others.all;
     }
 
-apart_both : (before os ps : List Object) → AreApart before os → AreApart (before ++ os) ps → AreApart before (os ++ ps)
+apart_both : (before os ps : List DeclaredObject) → AreApart before os → AreApart (before ++ os) ps → AreApart before (os ++ ps)
 apart_both before [] ps h k = subst (λ l. AreApart l ps) (append-nil before) k
 apart_both before (o ∷ os) ps h k = (h.0, apart_both (before ++ o ∷ []) os ps h.1 (subst (λ l. AreApart l ps) (sym (append_assoc before (o ∷ []) os)) k))
 
-earlier : (text : List ℕ) (file b : ℕ) (next : List ℕ) (at : ℕ) (o : Object) → Before text file b o → Before next (suc file) at o
+earlier : (text : List ℕ) (file b : ℕ) (next : List ℕ) (at : ℕ) (o : DeclaredObject) → Before text file b o → Before next (suc file) at o
 earlier text file b next at o (inl lt) = inl (omega (arith, lt))
 earlier text file b next at o (inr h) = inl (let same = h.0 in omega (arith, same))
 
@@ -214,7 +214,7 @@ parsed_placed : (edition : Edition) (text : List ℕ) (f : File) → IsParse edi
 unfolding IsParse
 parsed_placed edition text f (ts, lexes, derives) = file_placed edition text (mark_size text) f (lexemes text ts) derives.derived (lexes_rise text ts lexes)
 
-files_apart : (edition : Edition) (number : ℕ) (files : List File) (before : List Object) → AreParsed edition files → ((text : List ℕ) (at : ℕ) → AllOf (Before text number at) before) → AreApart before (objects_from number files)
+files_apart : (edition : Edition) (number : ℕ) (files : List File) (before : List DeclaredObject) → AreParsed edition files → ((text : List ℕ) (at : ℕ) → AllOf (Before text number at) before) → AreApart before (objects_from number files)
 files_apart edition number [] before h earlier_ones = tt
 files_apart edition number (f ∷ fs) before h earlier_ones =
     let text = (h.0).0 in

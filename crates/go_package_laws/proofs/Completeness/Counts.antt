@@ -5,22 +5,22 @@ use Rattle.std.specs.List.{flat_map, zip}
 use Rattle.std.proofs.lemmas.Bool.{cases_Bool, eqb-true}
 use Rattle.go_text.specs.declared.fault.FaultKind.{FaultKind}
 use Rattle.go_text.specs.Faults.{fault_number}
-use Rattle.go_ast.specs.Trees.{Name, Exprs, no_exprs, some_exprs}
+use Rattle.go_ast.specs.Trees.{Name, ExpressionList, no_exprs, some_exprs}
 use Rattle.go_types.specs.Types.{Type'}
 use Rattle.go_types.specs.Relations.{assignable}
 use Rattle.go_typed.specs.Trees as typed
-use Rattle.go_typed.specs.Trees.{Source, each, expr_type}
+use Rattle.go_typed.specs.Trees.{ValueSource, each, expr_type}
 use Rattle.go_expr.specs.Known.{Verdict, Fine, Breaks, Passed, Scope}
-use Rattle.go_expr.specs.Rules.{fine, checked, wrong, least, lesser, each_unless, lies_in, assigned, default_type, defaulted, settled_type}
+use Rattle.go_expr.specs.Rules.{fine, checked, wrong, least, lesser_fault, fine_list, lies_in, assigned, default_type, defaulted, settled_type}
 use Rattle.go_expr.specs.Verdicts.{operand, verdict}
-use Rattle.go_stmt.specs.Scopes.{paired}
-use Rattle.go_stmt.specs.Rules.{all_some, Values, separate, together, no_values, suited_one, suited}
+use Rattle.go_stmt.specs.Scopes.{paired_names}
+use Rattle.go_stmt.specs.Rules.{all_some, AssignedValues, separate, together, no_values, suited_one, suited}
 use Rattle.go_stmt.specs.Statements.{each_of, values_known, alone_types, value_types}
 use Rattle.go_package_laws.specs.Finds.{IsKnown}
 use Rattle.go_package_laws.proofs.Completeness.Rules.{IsAsked, assignments, defaults}
 use Rattle.go_package_laws.proofs.Completeness.Forms.{AllTyped}
 
-abbrev pub count : Values → ℕ
+abbrev pub count : AssignedValues → ℕ
 count (separate es) = length es
 count (together ts f es) = length ts
 count no_values = 0
@@ -43,18 +43,18 @@ results_counted : (due : List (Option Type')) (ts : List Type') (f : typed.Symbo
 results_counted due ts f es true is k = eqb-true (length due) (length ts) is
 results_counted due ts f es false is k = absurd (let r : fine (suited due (together ts f es)) ≡ None = elim (cases_Bool (nat_eq (length ts) 0)) [ inl z ↦ rw (is, z) refl | inr z ↦ rw (is, z) refl ] in cc)
 
-pub suited_counted : (due : List (Option Type')) (values : Values) → IsKnown (fine (suited due values)) → length due ≡ count values
+pub suited_counted : (due : List (Option Type')) (values : AssignedValues) → IsKnown (fine (suited due values)) → length due ≡ count values
 suited_counted due (separate es) k = separate_counted due es (nat_eq (length due) (length es)) refl k
 suited_counted due (together ts f es) k = results_counted due ts f es (nat_eq (length due) (length ts)) refl k
 suited_counted due no_values k = absurd cc
 
-pub pair_typed : {A : Type 0} (ns : List Name) (ts : List (Option A)) → length ns ≡ length ts → AllSome ts → AllTyped (paired ns ts)
+pub pair_typed : {A : Type 0} (ns : List Name) (ts : List (Option A)) → length ns ≡ length ts → AllSome ts → AllTyped (paired_names ns ts)
 pair_typed [] ts same some = tt
 pair_typed (n ∷ ns) [] same some = absurd (omega (arith, same))
 pair_typed (n ∷ ns) (None ∷ ts) same some = absurd some
 pair_typed (n ∷ ns) (Some t ∷ ts) same some = pair_typed ns ts (omega (arith, same)) some
 
-pub one_typed : (ns : List Name) (o : Option Type') → IsKnown o → AllTyped (paired ns (map (λ n. o) ns))
+pub one_typed : (ns : List Name) (o : Option Type') → IsKnown o → AllTyped (paired_names ns (map (λ n. o) ns))
 one_typed [] o k = tt
 one_typed (n ∷ ns) None k = absurd cc
 one_typed (n ∷ ns) (Some t) k = one_typed ns (Some t) k
@@ -77,27 +77,27 @@ all_front o os x xs at is = rw (at, is) refl
 
 -- ---- values that suit
 
-some_least : (k : FaultKind) (o : Option FaultKind) → lesser (Some k) o ≡ None → ⊥
+some_least : (k : FaultKind) (o : Option FaultKind) → lesser_fault (Some k) o ≡ None → ⊥
 some_least k None h = cc
 some_least k (Some l) h = elim (cases_Bool (nat_le (fault_number k) (fault_number l))) [
-  | inl is ↦ (let r : lesser (Some k) (Some l) ≡ Some k = rw is refl in cc)
-  | inr not_so ↦ (let r : lesser (Some k) (Some l) ≡ Some l = rw not_so refl in cc)
+  | inl is ↦ (let r : lesser_fault (Some k) (Some l) ≡ Some k = rw is refl in cc)
+  | inr not_so ↦ (let r : lesser_fault (Some k) (Some l) ≡ Some l = rw not_so refl in cc)
 ]
 
 none_least : (ks : List FaultKind) → least ks ≡ None → ks ≡ []
 none_least [] h = refl
 none_least (k ∷ ks) h = absurd (some_least k (least ks) h)
 
-pub none_wrong : {A : Type 0} (vs : List (Verdict A)) (o : Option FaultKind) → least (flat_map wrong vs) ≡ o → IsKnown (fine (each_unless [] vs)) → flat_map wrong vs ≡ []
+pub none_wrong : {A : Type 0} (vs : List (Verdict A)) (o : Option FaultKind) → least (flat_map wrong vs) ≡ o → IsKnown (fine (fine_list [] vs)) → flat_map wrong vs ≡ []
 none_wrong vs None at k = none_least (flat_map wrong vs) at
-none_wrong vs (Some kind) at k = absurd (let r : fine (each_unless [] vs) ≡ None = rw (at, each_unless) refl in cc)
+none_wrong vs (Some kind) at k = absurd (let r : fine (fine_list [] vs) ≡ None = rw (at, fine_list) refl in cc)
 
 pub suited_parts : (due : List (Option Type')) (es : List typed.Expr) (b : Bool) → nat_eq (length due) (length es) ≡ b → IsKnown (fine (suited due (separate es))) → flat_map wrong (map suited_one (zip due es)) ≡ []
 suited_parts due es false is k = absurd (let r : fine (suited due (separate es)) ≡ None = rw is refl in cc)
 suited_parts due es true is k =
-    let r : suited due (separate es) ≡ checked (λ es. Fine (each (typed.pack_exprs es))) (each_unless [] (map suited_one (zip due es))) = rw is refl in
+    let r : suited due (separate es) ≡ checked (λ es. Fine (each (typed.pack_exprs es))) (fine_list [] (map suited_one (zip due es))) = rw is refl in
     none_wrong (map suited_one (zip due es)) (least (flat_map wrong (map suited_one (zip due es)))) refl
-    (through_known (λ es. each (typed.pack_exprs es)) (each_unless [] (map suited_one (zip due es))) (subst (λ v. IsKnown (fine v)) r k))
+    (through_known (λ es. each (typed.pack_exprs es)) (fine_list [] (map suited_one (zip due es))) (subst (λ v. IsKnown (fine v)) r k))
 
 pub right : {A : Type 0} (v : Verdict A) → IsAsked v → (rest : List FaultKind) → wrong v ++ rest ≡ [] → IsKnown (fine v) × (rest ≡ [])
 right (Fine x) h rest none = ((x, refl), none)
@@ -143,12 +143,12 @@ together_fits (d ∷ ds) [] same = absurd (omega (arith, same))
 together_fits (None ∷ ds) (t ∷ ts) same = ((t, refl), together_fits ds ts (omega (arith, same)))
 together_fits (Some u ∷ ds) (t ∷ ts) same = together_fits ds ts (omega (arith, same))
 
-suited_fits : (due : List (Option Type')) (values : Values) → IsKnown (fine (suited due values)) → Fit due (alone_types (Some values))
+suited_fits : (due : List (Option Type')) (values : AssignedValues) → IsKnown (fine (suited due values)) → Fit due (alone_types (Some values))
 suited_fits due (separate es) k = separate_fits due es (suited_counted due (separate es) k) (suited_parts due es (nat_eq (length due) (length es)) refl k)
 suited_fits due (together ts f es) k = together_fits due ts (suited_counted due (together ts f es) k)
 suited_fits due no_values k = absurd cc
 
-all_types : (s : Scope) (es : Exprs) (xs : List typed.Expr) → all_some (each_of (λ e. operand (verdict s e)) es) ≡ Some xs
+all_types : (s : Scope) (es : ExpressionList) (xs : List typed.Expr) → all_some (each_of (λ e. operand (verdict s e)) es) ≡ Some xs
     → each_of (λ e. option_and_then settled_type (operand (verdict s e))) es ≡ map settled_type xs
 all_types s no_exprs xs is = (let same : [] ≡ xs = cc in ap (map settled_type) same)
 all_types s (some_exprs e es) xs is =
@@ -163,21 +163,21 @@ all_types s (some_exprs e es) xs is =
     ∙ ap (λ ts. settled_type x ∷ ts) (all_types s es ys (ks.1).1)
     ∙ ap (map settled_type) same
 
-several_types : (s : Scope) (es : Exprs) (v : Values) (o : Option (List typed.Expr)) → all_some (each_of (λ e. operand (verdict s e)) es) ≡ o → option_map separate o ≡ Some v
+several_types : (s : Scope) (es : ExpressionList) (v : AssignedValues) (o : Option (List typed.Expr)) → all_some (each_of (λ e. operand (verdict s e)) es) ≡ o → option_map separate o ≡ Some v
     → each_of (λ e. option_and_then settled_type (operand (verdict s e))) es ≡ alone_types (Some v)
 several_types s es v None at is = absurd cc
 several_types s es v (Some xs) at is = (let same : separate xs ≡ v = cc in all_types s es xs at ∙ ap (λ w. alone_types (Some w)) same)
 
-pub types_alone : (s : Scope) (es : Exprs) (v : Values) → values_known s es ≡ Some v → value_types s es ≡ alone_types (Some v)
+pub types_alone : (s : Scope) (es : ExpressionList) (v : AssignedValues) → values_known s es ≡ Some v → value_types s es ≡ alone_types (Some v)
 types_alone s no_exprs v is = several_types s no_exprs v (Some []) refl is
 types_alone s (some_exprs e no_exprs) v is = ap alone_types is
 types_alone s (some_exprs e (some_exprs f es)) v is = several_types s (some_exprs e (some_exprs f es)) v (all_some (each_of (λ e. operand (verdict s e)) (some_exprs e (some_exprs f es)))) refl is
 
 -- types by values that are known and suit
-pub values_fit : (s : Scope) (es : Exprs) (v : Values) (due : List (Option Type')) → values_known s es ≡ Some v → IsKnown (fine (suited due v)) → Fit due (value_types s es)
+pub values_fit : (s : Scope) (es : ExpressionList) (v : AssignedValues) (due : List (Option Type')) → values_known s es ≡ Some v → IsKnown (fine (suited due v)) → Fit due (value_types s es)
 values_fit s es v due is k = subst (Fit due) (sym (types_alone s es v is)) (suited_fits due v k)
 
-pub fit_typed : (ns : List Name) (ts : List (Option Type')) → Fit (map (λ n. None) ns) ts → AllTyped (paired ns ts)
+pub fit_typed : (ns : List Name) (ts : List (Option Type')) → Fit (map (λ n. None) ns) ts → AllTyped (paired_names ns ts)
 fit_typed [] [] h = tt
 fit_typed [] (t ∷ ts) h = absurd h
 fit_typed (n ∷ ns) [] h = absurd h

@@ -5,7 +5,7 @@ use Rattle.std.specs.List.{slice_get, list_any}
 use Rattle.std.proofs.lemmas.Bool.{cases_Bool}
 use Rattle.go_text.specs.declared.place.Place.{Place}
 use Rattle.go_text.specs.declared.fault.FaultKind.TheVariants.{Assign, Range, Size}
-use Rattle.go_ast.specs.Trees.{Name, TypeExpr, Expr, TypeSpec}
+use Rattle.go_ast.specs.Trees.{Name, TypeExpr, Expression, TypeSpec}
 use Rattle.go_const.specs.declared.constant.Const.{Const}
 use Rattle.go_types.specs.Types.{Type', named}
 use Rattle.go_types.specs.Relations.{underlying, assignable}
@@ -15,7 +15,7 @@ use Rattle.go_scope.specs.Names.{in_type, in_expr}
 use Rattle.go_expr.specs.Known.{Declared, value, type' as known_type, function as known_function, declared, Known, Verdict, Fine, Scope}
 use Rattle.go_expr.specs.Rules.{fine, valued, assigned, lies_in, constant_due, is_small}
 use Rattle.go_expr.specs.Verdicts.{asked, asked_both, broken, operand, operand_broken, verdict, faults, type_faults}
-use Rattle.go_objects.specs.Objects.{Form, constant, type', typed_variable, valued_variable, result_variable, function', other, Object, firsts, type_object}
+use Rattle.go_objects.specs.Objects.{Form, constant, type', typed_variable, valued_variable, result_variable, function', other, DeclaredObject, firsts, type_object}
 use Rattle.go_objects.specs.Table.{in_written, used_by, scope_at, constant_verdict, named_type, variable, object_verdict, declared_in}
 use Rattle.go_stmt.specs.Statements.{first_fault, least_at, written_faults}
 use Rattle.go_stmt.proofs.Repeats.{none_at, no_first}
@@ -48,23 +48,23 @@ abbrev pub scope_of : Facts → ℕ → Option ℕ → Scope
 scope_of t file iota = scope_at t.package t.known file iota
 
 -- of an object whose names are told something is known, unless it has a fault by itself
-abbrev pub Follows : Facts → Object → Type 0
+abbrev pub Follows : Facts → DeclaredObject → Type 0
 Follows t o = ((iota : Option ℕ) → Tells (scope_of t o.file iota) (used_by o.form)) → object_faults t o ≡ [] → IsOf o.form (declared_in (fine (object_verdict t.package t.known o)))
 
-abbrev pub AllFollow : Facts → List Object → Type 0
+abbrev pub AllFollow : Facts → List DeclaredObject → Type 0
 AllFollow t [] = Unit {0}
 AllFollow t (o ∷ os) = Follows t o × AllFollow t os
 
-pub follow_both : (t : Facts) (xs ys : List Object) → AllFollow t xs → AllFollow t ys → AllFollow t (xs ++ ys)
+pub follow_both : (t : Facts) (xs ys : List DeclaredObject) → AllFollow t xs → AllFollow t ys → AllFollow t (xs ++ ys)
 follow_both t [] ys f g = g
 follow_both t (x ∷ xs) ys f g = (f.0, follow_both t xs ys f.1 g)
 
-pub follow_at : (t : Facts) (os : List Object) (k : ℕ) (o : Object) → AllFollow t os → slice_get os k ≡ Some o → Follows t o
+pub follow_at : (t : Facts) (os : List DeclaredObject) (k : ℕ) (o : DeclaredObject) → AllFollow t os → slice_get os k ≡ Some o → Follows t o
 follow_at t [] k o f at = cc
-follow_at t (x ∷ xs) zero o f at = (let same : x ≡ o = cc in subst (λ (y : Object). Follows t y) same f.0)
+follow_at t (x ∷ xs) zero o f at = (let same : x ≡ o = cc in subst (λ (y : DeclaredObject). Follows t y) same f.0)
 follow_at t (x ∷ xs) (suc k) o f at = follow_at t xs k o f.1 at
 
-pub follow_firsts : (t : Facts) (names : List (List ℕ)) (os : List Object) → AllFollow t os → AllFollow t (firsts names os)
+pub follow_firsts : (t : Facts) (names : List (List ℕ)) (os : List DeclaredObject) → AllFollow t os → AllFollow t (firsts names os)
 follow_firsts t names [] f = tt
 follow_firsts t names (o ∷ os) f = elim (cases_Bool (bytes_eq o.name.text (codes "_") || list_any (bytes_eq o.name.text) names)) [
   | inl out ↦ rw out (follow_firsts t names os f.1)
@@ -87,7 +87,7 @@ fitting_constant p t (typed.constant u c) none = elim (cases_Bool (not (assignab
 ]
 fitting_constant p t x none = absurd cc
 
-constant_known : (s : Scope) (t : Option TypeExpr) (e : Expr) (p : Place) → Tells s (in_written t ++ in_expr false e) → written_faults s t ≡ [] → faults s e ++ operand_broken e (verdict s e) ≡ []
+constant_known : (s : Scope) (t : Option TypeExpr) (e : Expression) (p : Place) → Tells s (in_written t ++ in_expr false e) → written_faults s t ≡ [] → faults s e ++ operand_broken e (verdict s e) ≡ []
     → broken p (asked_both own_constant (written_type s t) (operand (verdict s e))) ≡ [] → IsConstant (declared_in (fine (constant_verdict s t e)))
 constant_known s None e p tells w v own =
     let ns = two_none (faults s e) (operand_broken e (verdict s e)) v in
@@ -108,7 +108,7 @@ constant_known s (Some t) e p tells w v own =
     )
 
 -- a constant by itself has the faults of its type and of its value
-pub constant_follows : (t : Facts) (file : ℕ) (p : Place) (n : Name) (of : Option TypeExpr) (e : Expr) (iota : ℕ) → Follows t (record { file = file; begins = p; name = n; form = constant of e iota })
+pub constant_follows : (t : Facts) (file : ℕ) (p : Place) (n : Name) (of : Option TypeExpr) (e : Expression) (iota : ℕ) → Follows t (record { file = file; begins = p; name = n; form = constant of e iota })
 constant_follows t file p n of e iota tells own =
     let s = scope_of t file (Some iota) in
     let value = faults s e ++ operand_broken e (verdict s e) in

@@ -10,11 +10,11 @@ use Rattle.go_scope.specs.Scopes as scopes
 use Rattle.go_scope.specs.Scopes.{is_blank}
 use Rattle.go_types.specs.Types.{Type'}
 use Rattle.go_typed.specs.Trees.{local}
-use Rattle.go_expr.specs.Known.{Declared, value, Known, Verdict, named, look_up}
+use Rattle.go_expr.specs.Known.{Declared, value, Known, Verdict, named, look_up_known}
 use Rattle.go_expr.specs.Rules.{fine}
 use Rattle.go_expr.specs.Verdicts.{asked, both, broken}
-use Rattle.go_stmt.specs.Scopes.{Env, Context, scope_in, enter, leave, declare, declare_variable, declare_new, Checked, given, follow, seen, single, appended, node, inside}
-use Rattle.go_package_laws.specs.Finds.{IsKnown, IsTold}
+use Rattle.go_stmt.specs.Scopes.{StatementEnv, Context, scope_in, enter_scope, leave, declare_name, declare_variable, declare_new, Checked, pure_checked, follow, map_checked, single, concat_checked, node, in_new_block}
+use Rattle.go_package_laws.specs.Finds.{IsKnown, IsDetermined}
 use Rattle.go_package_laws.proofs.Completeness.Rules.{IsAsked}
 use Rattle.go_package_laws.proofs.Completeness.Faultless.{known, two_none}
 
@@ -33,7 +33,7 @@ abbrev pub Blocks : List Names → Type 0
 Blocks [] = Unit {0}
 Blocks (b ∷ bs) = AllTold b × Blocks bs
 
-abbrev pub Whole : Env → Type 0
+abbrev pub Whole : StatementEnv → Type 0
 Whole env = AllTold env.names.inner × Blocks env.names.outer
 
 more : (ns ms : Names) → AllTold ns → AllTold ms → AllTold (ns ++ ms)
@@ -45,26 +45,26 @@ flat : (bs : List Names) → Blocks bs → AllTold (flat_map (λ b. b) bs)
 flat [] h = tt
 flat (b ∷ bs) h = more b (flat_map (λ b. b) bs) h.0 (flat bs h.1)
 
-found : (ns : Names) (rest : List (List ℕ × Verdict Known)) (x : List ℕ) → AllTold ns → IsTold (look_up x rest) → IsTold (look_up x (map (λ n. (n.0, named n.1)) ns ++ rest))
+found : (ns : Names) (rest : List (List ℕ × Verdict Known)) (x : List ℕ) → AllTold ns → IsDetermined (look_up_known x rest) → IsDetermined (look_up_known x (map (λ n. (n.0, named n.1)) ns ++ rest))
 found [] rest x h k = k
 found ((y, None) ∷ ns) rest x h k = absurd h
 found ((y, Some d) ∷ ns) rest x h k = elim (cases_Bool (bytes_eq x y)) [ inl is ↦ rw is tt | inr not_so ↦ rw not_so (found ns rest x h k) ]
 
 -- names outside are told, and what the function gives is known
 abbrev pub Outside : Context → Type 0
-Outside c = (iota : Option ℕ) (x : List ℕ) → IsTold (look_up x (c.outside iota))
+Outside c = (iota : Option ℕ) (x : List ℕ) → IsDetermined (look_up_known x (c.outside iota))
 
-pub all_told : (c : Context) (iota : Option ℕ) (env : Env) → Outside c → Whole env → (x : List ℕ) → IsTold (look_up x (scope_in c iota env).names)
+pub all_told : (c : Context) (iota : Option ℕ) (env : StatementEnv) → Outside c → Whole env → (x : List ℕ) → IsDetermined (look_up_known x (scope_in c iota env).names)
 all_told c iota env out whole x =
     found (flat_map (λ b. b) (env.names.inner ∷ env.names.outer)) (c.outside iota) x (flat (env.names.inner ∷ env.names.outer) whole) (out iota x)
 
-pub declared_whole : (x : List ℕ) (d : Declared) (env : Env) → Whole env → Whole (declare x (Some d) env)
+pub declared_whole : (x : List ℕ) (d : Declared) (env : StatementEnv) → Whole env → Whole (declare_name x (Some d) env)
 declared_whole x d env h = elim (cases_Bool (bytes_eq x (codes "_"))) [
   | inl is ↦ rw is h
   | inr not_so ↦ rw not_so (more env.names.inner ((x, Some d) ∷ []) h.0 tt, h.1)
 ]
 
-pub variable_whole : (x : List ℕ) (t : Type') (env : Env) → Whole env → Whole (declare_variable x (Some t) env)
+pub variable_whole : (x : List ℕ) (t : Type') (env : StatementEnv) → Whole env → Whole (declare_variable x (Some t) env)
 variable_whole x t env h = declared_whole x (value (local t (length env.types))) env h
 
 abbrev pub AllTyped : {A : Type 0} → List (Name × Option A) → Type 0
@@ -72,19 +72,19 @@ AllTyped [] = Unit {0}
 AllTyped ((n, None) ∷ ns) = ⊥
 AllTyped ((n, Some t) ∷ ns) = AllTyped ns
 
-next_whole : (n : Name) (t : Type') (env : Env) → Whole env → Whole (declare_new ((n, Some t) ∷ []) env)
+next_whole : (n : Name) (t : Type') (env : StatementEnv) → Whole env → Whole (declare_new ((n, Some t) ∷ []) env)
 next_whole n t env h = elim (cases_Bool (is_blank n.text)) [
   | inl is ↦ rw is h
   | inr sure ↦ elim (cases_Bool (scopes.is_own env.names n.text)) [ inl is ↦ rw (sure, is) h | inr not_so ↦ rw (sure, not_so) (more env.names.inner ((n.text, Some (value (local t (length env.types)))) ∷ []) h.0 tt, h.1) ]
 ]
 
-pub new_whole : (ns : List (Name × Option Type')) (env : Env) → AllTyped ns → Whole env → Whole (declare_new ns env)
+pub new_whole : (ns : List (Name × Option Type')) (env : StatementEnv) → AllTyped ns → Whole env → Whole (declare_new ns env)
 new_whole [] env typed h = h
 new_whole ((n, None) ∷ ns) env typed h = absurd typed
 new_whole ((n, Some t) ∷ ns) env typed h = new_whole ns (declare_new ((n, Some t) ∷ []) env) typed (next_whole n t env h)
 
 -- each has a type, or stands for a name that the block has
-abbrev pub AllDue : Env → List (Name × Option Type') → Type 0
+abbrev pub AllDue : StatementEnv → List (Name × Option Type') → Type 0
 AllDue env [] = Unit {0}
 AllDue env ((n, None) ∷ ns) = (scopes.is_own env.names n.text ≡ true) × AllDue env ns
 AllDue env ((n, Some t) ∷ ns) = AllDue env ns
@@ -93,7 +93,7 @@ found_more : (x : List ℕ) (ns ms : Names) → is_some (lookup (bytes_eq x) ns)
 found_more x [] ms h = absurd cc
 found_more x ((y, d) ∷ ns) ms h = elim (cases_Bool (bytes_eq x y)) [ inl is ↦ rw is refl | inr not_so ↦ rw not_so (found_more x ns ms (rw not_so at h)) ]
 
-own_more : (x : List ℕ) (n : Name) (t : Type') (env : Env) → scopes.is_own env.names x ≡ true → scopes.is_own (declare_new ((n, Some t) ∷ []) env).names x ≡ true
+own_more : (x : List ℕ) (n : Name) (t : Type') (env : StatementEnv) → scopes.is_own env.names x ≡ true → scopes.is_own (declare_new ((n, Some t) ∷ []) env).names x ≡ true
 own_more x n t env h = elim (cases_Bool (is_blank n.text)) [
   | inl is ↦ rw is h
   | inr sure ↦ elim (cases_Bool (scopes.is_own env.names n.text)) [
@@ -102,20 +102,20 @@ own_more x n t env h = elim (cases_Bool (is_blank n.text)) [
   ]
 ]
 
-pub due_more : (ns : List (Name × Option Type')) (n : Name) (t : Type') (env : Env) → AllDue env ns → AllDue (declare_new ((n, Some t) ∷ []) env) ns
+pub due_more : (ns : List (Name × Option Type')) (n : Name) (t : Type') (env : StatementEnv) → AllDue env ns → AllDue (declare_new ((n, Some t) ∷ []) env) ns
 due_more [] n t env h = tt
 due_more ((m, None) ∷ ns) n t env h = (own_more m.text n t env h.0, due_more ns n t env h.1)
 due_more ((m, Some u) ∷ ns) n t env h = due_more ns n t env h
 
-pub old_stays : (n : Name) (o : Option Type') (ns : List (Name × Option Type')) (env : Env) → scopes.is_own env.names n.text ≡ true → declare_new ((n, o) ∷ ns) env ≡ declare_new ns env
+pub old_stays : (n : Name) (o : Option Type') (ns : List (Name × Option Type')) (env : StatementEnv) → scopes.is_own env.names n.text ≡ true → declare_new ((n, o) ∷ ns) env ≡ declare_new ns env
 old_stays n o ns env own = elim (cases_Bool (is_blank n.text)) [ inl is ↦ rw is refl | inr not_so ↦ rw (not_so, own) refl ]
 
-pub due_whole : (ns : List (Name × Option Type')) (env : Env) → AllDue env ns → Whole env → Whole (declare_new ns env)
+pub due_whole : (ns : List (Name × Option Type')) (env : StatementEnv) → AllDue env ns → Whole env → Whole (declare_new ns env)
 due_whole [] env due h = h
 due_whole ((n, None) ∷ ns) env due h = subst Whole (sym (old_stays n None ns env due.0)) (due_whole ns env due.1 h)
 due_whole ((n, Some t) ∷ ns) env due h = due_whole ns (declare_new ((n, Some t) ∷ []) env) (due_more ns n t env due) (next_whole n t env h)
 
-left_whole : (env : Env) → Whole env → Whole (leave env)
+left_whole : (env : StatementEnv) → Whole env → Whole (leave env)
 left_whole env h = elim env.names.outer as (λ o. env.names.outer ≡ o → Blocks o → Whole (leave env)) [
   | [] ↦ λ at k. rw (at, Whole) (h.0, tt)
   | b ∷ bs ↦ λ at k. rw (at, Whole) k
@@ -132,19 +132,19 @@ Any x = Unit {0}
 abbrev pub Holds : {A : Type 0} → (A → Type 0) → Checked A → Type 0
 Holds P r = KnownAs P r.known × Whole r.after
 
-abbrev pub Sure : {A : Type 0} → (A → Type 0) → (Env → Checked A) → Type 0
-Sure P form = (env : Env) → Whole env → (form env).faults ≡ [] → Holds P (form env)
+abbrev pub Sure : {A : Type 0} → (A → Type 0) → (StatementEnv → Checked A) → Type 0
+Sure P form = (env : StatementEnv) → Whole env → (form env).faults ≡ [] → Holds P (form env)
 
 pub any : {A : Type 0} (o : Option A) → IsKnown o → KnownAs (λ (x : A). Unit {0}) o
 any o k = (k.0, k.1, tt)
 
-pub sure_given : {A : Type 0} (x : A) → Sure Any (given x)
+pub sure_given : {A : Type 0} (x : A) → Sure Any (pure_checked x)
 sure_given x env whole none = ((x, refl, tt), whole)
 
 pair : {A B : Type 0} (P : A → Type 0) (Q : B → Type 0) (a : Option A) (b : Option B) → KnownAs P a → KnownAs Q b → KnownAs (λ (k : A × B). P k.0 × Q k.1) (both a b)
 pair P Q a b h k = rw (h.1, k.1) ((h.0, k.0), refl, (h.2, k.2))
 
-pub sure_follow : {A B : Type 0} (P : A → Type 0) (Q : B → Type 0) (f : Env → Checked A) (g : Env → Checked B) → Sure P f → Sure Q g → Sure (λ (k : A × B). P k.0 × Q k.1) (follow f g)
+pub sure_follow : {A B : Type 0} (P : A → Type 0) (Q : B → Type 0) (f : StatementEnv → Checked A) (g : StatementEnv → Checked B) → Sure P f → Sure Q g → Sure (λ (k : A × B). P k.0 × Q k.1) (follow f g)
 sure_follow P Q f g h k env whole none =
     let ns = two_none (f env).faults (g (f env).after).faults none in
     let one = h env whole ns.0 in
@@ -154,31 +154,31 @@ sure_follow P Q f g h k env whole none =
 as_seen : {A B : Type 0} (P : A → Type 0) (Q : B → Type 0) (f : A → B) (o : Option A) → ((x : A) → P x → Q (f x)) → KnownAs P o → KnownAs Q (option_map f o)
 as_seen P Q f o each k = rw (k.1) (f k.0, refl, each k.0 k.2)
 
-pub sure_seen : {A B : Type 0} (P : A → Type 0) (Q : B → Type 0) (f : A → B) (form : Env → Checked A) → ((x : A) → P x → Q (f x)) → Sure P form → Sure Q (seen f form)
+pub sure_seen : {A B : Type 0} (P : A → Type 0) (Q : B → Type 0) (f : A → B) (form : StatementEnv → Checked A) → ((x : A) → P x → Q (f x)) → Sure P form → Sure Q (map_checked f form)
 sure_seen P Q f form each h env whole none = (let one = h env whole none in (as_seen P Q f (form env).known each one.0, one.1))
 
-pub sure_single : {A : Type 0} (P : A → Type 0) (form : Env → Checked A) → Sure P form → Sure Any (single form)
+pub sure_single : {A : Type 0} (P : A → Type 0) (form : StatementEnv → Checked A) → Sure P form → Sure Any (single form)
 sure_single P form h = sure_seen P Any (λ x. x ∷ []) form (λ x p. tt) h
 
-pub sure_appended : {A : Type 0} (f g : Env → Checked (List A)) → Sure Any f → Sure Any g → Sure Any (appended f g)
+pub sure_appended : {A : Type 0} (f g : StatementEnv → Checked (List A)) → Sure Any f → Sure Any g → Sure Any (concat_checked f g)
 sure_appended {A} f g h k = sure_seen (λ (k : List A × List A). Any k.0 × Any k.1) Any (λ k. k.0 ++ k.1) (follow f g) (λ x p. tt) (sure_follow Any Any f g h k)
 
 ruled : {A B : Type 0} (P : A → Type 0) (rule : A → Verdict B) (o : Option A) → KnownAs P o → ((x : A) → P x → IsAsked (rule x)) → IsAsked (asked rule o)
 ruled P rule o k each = rw (k.1) (each k.0 k.2)
 
-pub sure_node : {A B : Type 0} (P : A → Type 0) (p : Place) (rule : A → Verdict B) (parts : Env → Checked A) → ((x : A) → P x → IsAsked (rule x)) → Sure P parts → Sure Any (node p rule parts)
+pub sure_node : {A B : Type 0} (P : A → Type 0) (p : Place) (rule : A → Verdict B) (parts : StatementEnv → Checked A) → ((x : A) → P x → IsAsked (rule x)) → Sure P parts → Sure Any (node p rule parts)
 sure_node P p rule parts each h env whole none =
     let ns = two_none (parts env).faults (broken p (asked rule (parts env).known)) none in
     let one = h env whole ns.0 in
     let v = asked rule (parts env).known in
     (any (fine v) (known p v (ruled P rule (parts env).known one.0 each) ns.1), one.1)
 
-pub sure_inside : {A : Type 0} (P : A → Type 0) (form : Env → Checked A) → Sure P form → Sure P (inside form)
-sure_inside P form h env whole none = (let one = h (enter env) (tt, whole) none in (one.0, left_whole (form (enter env)).after one.1))
+pub sure_inside : {A : Type 0} (P : A → Type 0) (form : StatementEnv → Checked A) → Sure P form → Sure P (in_new_block form)
+sure_inside P form h env whole none = (let one = h (enter_scope env) (tt, whole) none in (one.0, left_whole (form (enter_scope env)).after one.1))
 
-pub both_sure : {A B : Type 0} (f : Env → Checked A) (g : Env → Checked B) → Sure Any f → Sure Any g → Sure Any (follow f g)
+pub both_sure : {A B : Type 0} (f : StatementEnv → Checked A) (g : StatementEnv → Checked B) → Sure Any f → Sure Any g → Sure Any (follow f g)
 both_sure f g h k env whole none = (let both = sure_follow Any Any f g h k env whole none in (any (follow f g env).known ((both.0).0, (both.0).1), both.1))
 
-pub sure_if : {A : Type 0} (b : Bool) (f g : Env → Checked A) → Sure Any f → Sure Any g → Sure Any (λ env. if b then f env else g env)
+pub sure_if : {A : Type 0} (b : Bool) (f g : StatementEnv → Checked A) → Sure Any f → Sure Any g → Sure Any (λ env. if b then f env else g env)
 sure_if true f g h k = h
 sure_if false f g h k = k

@@ -4,7 +4,7 @@ use Rattle.go_text.specs.declared.edition.Edition.{Edition}
 use Rattle.go_ast.specs.Parse.{IsParse, Derived}
 use Rattle.go_ast.specs.Tokens.{lexemes}
 use Rattle.go_ast.specs.Grammar.{Lexeme, IsStmt, IsBlock, IsIf, IsElse, AreStmts, AreClauses, IsFunction, AreTopLevels, IsFile, is_last}
-use Rattle.go_ast.specs.Trees.{Stmt, empty, declaration, simple, return, break, continue, fallthrough, block_statement, if_statement, for_statement, range_statement, switch_statement, Block, block, If, conditional, Else, no_else, else_block, else_if, Stmts, no_stmts, some_stmts, Clauses, no_clauses, clause, Function, TopLevel, declared, function, File}
+use Rattle.go_ast.specs.Trees.{Statement, empty, declaration, simple, return, break, continue, fallthrough, block_statement, if_statement, for_statement, range_statement, switch_statement, Block, block, If, conditional, Else, no_else, else_block, else_if, StatementList, no_stmts, some_stmts, Cases, no_clauses, clause, FunctionDecl, TopLevel, declared, function, File}
 use Rattle.go_package_laws.specs.Locals.{AreLocal, IsLocalIn, IsLocalBlock, IsLocalIf, IsLocalElse, AreLocalClauses}
 
 -- functions among declarations declare no types
@@ -15,7 +15,7 @@ AllLocal (function f ∷ ts) = IsLocalBlock f.body × AllLocal ts
 
 module _ (ed : Edition) where
   mutual
-    local_in : (s : Stmt) (us ws : List Lexeme) → IsStmt ed s us ws → IsLocalIn s
+    local_in : (s : Statement) (us ws : List Lexeme) → IsStmt ed s us ws → IsLocalIn s
     local_in (empty p) us ws h = tt
     local_in (declaration p d) us ws (is, place, none) = none
     local_in (simple p s) us ws h = tt
@@ -40,7 +40,7 @@ module _ (ed : Edition) where
     local_else (else_block b) us ws (t, vs, is, body) = local_block b vs ws body
     local_else (else_if i) us ws (t, vs, is, other) = local_if i vs ws other
 
-    local_stmts : (closed : Bool) (ss : Stmts) (us ws : List Lexeme) → AreStmts ed closed ss us ws → AreLocal ss
+    local_stmts : (closed : Bool) (ss : StatementList) (us ws : List Lexeme) → AreStmts ed closed ss us ws → AreLocal ss
     local_stmts closed no_stmts us ws h = tt
     local_stmts closed (some_stmts s ss) us ws (vs, is, behind) = (
       local_in s us vs is,
@@ -50,11 +50,11 @@ module _ (ed : Edition) where
       ],
     )
 
-    local_clauses : (cs : Clauses) (us ws : List Lexeme) → AreClauses ed cs us ws → AreLocalClauses cs
+    local_clauses : (cs : Cases) (us ws : List Lexeme) → AreClauses ed cs us ws → AreLocalClauses cs
     local_clauses no_clauses us ws h = tt
     local_clauses (clause p es ss cs) us ws (t, vs, xs, ys, values, colon, stmts, rest) = (local_stmts (is_last cs) ss xs ys stmts, local_clauses cs ys ws rest)
 
-  local_function : (f : Function) (us ws : List Lexeme) → IsFunction ed f us ws → IsLocalBlock f.body
+  local_function : (f : FunctionDecl) (us ws : List Lexeme) → IsFunction ed f us ws → IsLocalBlock f.body
   local_function f us ws (k, t, o, c, vs, xs, ys, zs, end, behind, is, place, named, name, opens, parameters, closes, results, body) = local_block f.body behind ws body
 
   local_tops : (ts : List TopLevel) (us ws : List Lexeme) → AreTopLevels ed ts us ws → AllLocal ts

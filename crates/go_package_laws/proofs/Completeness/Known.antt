@@ -5,27 +5,27 @@ use Rattle.std.specs.List.{slice_get, flat_map, list_any, cons_option, Contains}
 use Rattle.std.proofs.lemmas.Bool.{cases_Bool}
 use Rattle.go_text.specs.declared.edition.Edition.{Edition}
 use Rattle.go_text.specs.declared.place.Place.{Place}
-use Rattle.go_ast.specs.Trees.{Name, TypeExpr, Exprs, no_exprs, some_exprs, ConstSpec, VarSpec, TypeSpec, ImportSpec, constants, variables, types, TopLevel, declared, function, File}
+use Rattle.go_ast.specs.Trees.{Name, TypeExpr, ExpressionList, no_exprs, some_exprs, ConstSpec, VarSpec, TypeSpec, ImportSpec, constants, variables, types, TopLevel, declared, function, File}
 use Rattle.go_scope.specs.Order.{GroundedIn, Grounded}
 use Rattle.go_typed.specs.Trees as typed
 use Rattle.go_expr.specs.Known.{Declared, value, type', function as known_function, Names, package', Fine}
 use Rattle.go_expr.specs.Rules.{fine}
-use Rattle.go_expr.specs.Verdicts.{asked_both, broken, operands, type_faults}
-use Rattle.go_stmt.specs.Rules.{constants_of as constants_rule, variables_source}
+use Rattle.go_expr.specs.Verdicts.{asked_both, broken, operand_list, type_faults}
+use Rattle.go_stmt.specs.Rules.{constants_verdict as constants_rule, variables_source}
 use Rattle.go_stmt.specs.Statements.{values_known, values_faults, written_faults}
 use Rattle.go_stmt.specs.Functions.{function_at}
 use Rattle.go_scope.specs.Specifications.{meant, is_repeated}
-use Rattle.go_objects.specs.Objects.{Object, constants_of, in_group, variables_of, type_object, objects_in, objects_from, firsts, objects_of}
+use Rattle.go_objects.specs.Objects.{DeclaredObject, constants_of, in_group, variables_of, type_object, objects_in, objects_from, firsts, objects_of}
 use Rattle.go_objects.specs.Objects as forms
-use Rattle.go_objects.specs.Table.{Package, imports_at, needs, rows, used_by, object_verdict, declared_in, IsTable}
+use Rattle.go_objects.specs.Table.{PackageTable, imports_at, needs, rows, used_by, object_verdict, declared_in, IsTable}
 use Rattle.go_objects.proofs.Lookups.{Named, need_edge, rows_stay, length_rows}
-use Rattle.go_package.specs.Faults.{Facts, AreRecursive, context_at, name_faults, object_faults, written_type, parts_faults, constants_by, constants_faults, group_faults, type_spec_faults, var_parts_faults, variables_by, var_spec_faults, own_faults, top_faults, files_faults}
+use Rattle.go_package.specs.Faults.{Facts, AreRecursive, context_at, name_faults, object_faults, written_type, parts_faults, constants_by, constant_spec_faults, group_faults, type_spec_faults, var_parts_faults, variables_by, var_spec_faults, own_faults, top_faults, files_faults}
 use Rattle.go_package.proofs.Faultless.{faultless_grounded}
 use Rattle.go_package.specs.Imports.{Importable, package_at, import_name, named_import, imports_in, imports_of}
 use Rattle.go_package.specs.Packages.{numbered_faults, file_faults, each_file, main_faults, package_faults, package_in, AreFacts}
 use Rattle.go_package.specs.Packages as packages
 use Rattle.go_package.proofs.Whole.{no_faults}
-use Rattle.go_package_laws.specs.Finds.{IsKnown, IsTold, AreWhole, AreKnown}
+use Rattle.go_package_laws.specs.Finds.{IsKnown, IsDetermined, AllImportsAreKnown, AreKnown}
 use Rattle.go_package_laws.proofs.Completeness.Faultless.{two_none}
 use Rattle.go_package_laws.proofs.Completeness.Told.{KnownAt, second_of, tells_needs}
 use Rattle.go_package_laws.proofs.Completeness.Follows.{IsOf, scope_of, AllFollow, follow_both, follow_at, follow_firsts, type_follows}
@@ -38,37 +38,37 @@ unmapped : {A B : Type 0} (f : A → B) (xs : List A) → map f xs ≡ [] → xs
 unmapped f [] h = refl
 unmapped f (x ∷ xs) h = absurd cc
 
-nameless : (file iota : ℕ) (of : Option TypeExpr) (es : Exprs) → constants_of file iota (record { names = []; type = of; values = es }) ≡ []
+nameless : (file iota : ℕ) (of : Option TypeExpr) (es : ExpressionList) → constants_of file iota (record { names = []; type = of; values = es }) ≡ []
 nameless file iota of no_exprs = refl
 nameless file iota of (some_exprs e es) = refl
 
-constant_spec : (t : Facts) (file iota : ℕ) (repeated : Bool) (ns : List Name) (of : Option TypeExpr) (es : Exprs) → constants_faults t file iota repeated (record { names = ns; type = of; values = es }) ≡ []
+constant_spec : (t : Facts) (file iota : ℕ) (repeated : Bool) (ns : List Name) (of : Option TypeExpr) (es : ExpressionList) → constant_spec_faults t file iota repeated (record { names = ns; type = of; values = es }) ≡ []
     → AllFollow t (constants_of file iota (record { names = ns; type = of; values = es }))
 constant_spec t file iota repeated [] of es none = subst (AllFollow t) (sym (nameless file iota of es)) tt
 constant_spec t file iota repeated (n ∷ ns) of es none =
     let s = scope_of t file (Some iota) in
     let spec : ConstSpec = record { names = n ∷ ns; type = of; values = es } in
     let parts = parts_faults t file repeated n.place s spec in
-    let itself = constants_by t file iota n.place spec (written_type s of) (operands s es) in
+    let itself = constants_by t file iota n.place spec (written_type s of) (operand_list s es) in
     let own = two_none (flat_map (name_faults t file) (n ∷ ns)) (parts ++ itself) none in
     let rest = two_none parts itself own.1 in
-    let whole = two_none (broken n.place (asked_both (constants_rule (n ∷ ns)) (written_type s of) (operands s es))) _ rest.1 in
+    let whole = two_none (broken n.place (asked_both (constants_rule (n ∷ ns)) (written_type s of) (operand_list s es))) _ rest.1 in
     constants_follow t file iota repeated n.place (n ∷ ns) of es rest.0 whole.0
 
 group_follows : (t : Facts) (file iota : ℕ) (before : ConstSpec) (ss : List ConstSpec) → group_faults t file iota before ss ≡ [] → AllFollow t (in_group file iota before ss)
 group_follows t file iota before [] none = tt
 group_follows t file iota before (s ∷ ss) none =
     let m = meant before s in
-    let ns = two_none (constants_faults t file iota (is_repeated s) m) (group_faults t file (suc iota) m ss) none in
+    let ns = two_none (constant_spec_faults t file iota (is_repeated s) m) (group_faults t file (suc iota) m ss) none in
     follow_both t (constants_of file iota m) (in_group file (suc iota) m ss) (constant_spec t file iota (is_repeated s) m.names m.type m.values ns.0) (group_follows t file (suc iota) m ss ns.1)
 
-no_variables : (file : ℕ) (of : Option TypeExpr) (es : Exprs) → variables_of file (record { names = []; type = of; values = es }) ≡ []
+no_variables : (file : ℕ) (of : Option TypeExpr) (es : ExpressionList) → variables_of file (record { names = []; type = of; values = es }) ≡ []
 no_variables file (Some of) es = refl
 no_variables file None no_exprs = refl
 no_variables file None (some_exprs e no_exprs) = refl
 no_variables file None (some_exprs e (some_exprs f es)) = refl
 
-variable_spec : (t : Facts) (file : ℕ) (ns : List Name) (of : Option TypeExpr) (es : Exprs) → var_spec_faults t file (record { names = ns; type = of; values = es }) ≡ []
+variable_spec : (t : Facts) (file : ℕ) (ns : List Name) (of : Option TypeExpr) (es : ExpressionList) → var_spec_faults t file (record { names = ns; type = of; values = es }) ≡ []
     → AllFollow t (variables_of file (record { names = ns; type = of; values = es }))
 variable_spec t file [] of es none = subst (AllFollow t) (sym (no_variables file of es)) tt
 variable_spec t file (n ∷ ns) of es none =
@@ -127,13 +127,13 @@ files_follow t number (f ∷ fs) none =
 
 -- ---- objects by themselves
 
-first_none : (t : Facts) (x : Object) (xs : List Object) → object_faults t x ≡ [] → ((k : ℕ) (o : Object) → slice_get xs k ≡ Some o → object_faults t o ≡ []) → (k : ℕ) (o : Object)
+first_none : (t : Facts) (x : DeclaredObject) (xs : List DeclaredObject) → object_faults t x ≡ [] → ((k : ℕ) (o : DeclaredObject) → slice_get xs k ≡ Some o → object_faults t o ≡ []) → (k : ℕ) (o : DeclaredObject)
     → slice_get (x ∷ xs) k ≡ Some o → object_faults t o ≡ []
-first_none t x xs own others zero o at = (let same : x ≡ o = cc in subst (λ (y : Object). object_faults t y ≡ []) same own)
+first_none t x xs own others zero o at = (let same : x ≡ o = cc in subst (λ (y : DeclaredObject). object_faults t y ≡ []) same own)
 first_none t x xs own others (suc k) o at = others k o at
 
 -- the same of those that names find
-firsts_none : (t : Facts) (names : List (List ℕ)) (os : List Object) → flat_map (numbered_faults t) os ≡ [] → (k : ℕ) (o : Object) → slice_get (firsts names os) k ≡ Some o → object_faults t o ≡ []
+firsts_none : (t : Facts) (names : List (List ℕ)) (os : List DeclaredObject) → flat_map (numbered_faults t) os ≡ [] → (k : ℕ) (o : DeclaredObject) → slice_get (firsts names os) k ≡ Some o → object_faults t o ≡ []
 firsts_none t names [] none k o at = absurd cc
 firsts_none t names (x ∷ xs) none k o at =
     let ns = front (numbered_faults t x) (flat_map (numbered_faults t) xs) none in
@@ -147,13 +147,13 @@ firsts_none t names (x ∷ xs) none k o at =
 abbrev exported : List Importable → List (List ℕ × Names)
 exported ps = map (λ (p : Importable). (p.path, p.exports)) ps
 
-whole_at : (ps : List Importable) → AreWhole (exported ps) → (path : List ℕ) (q : Importable) → package_at ps path ≡ Some q → IsTold (Fine (package' q.exports))
+whole_at : (ps : List Importable) → AllImportsAreKnown (exported ps) → (path : List ℕ) (q : Importable) → package_at ps path ≡ Some q → IsDetermined (Fine (package' q.exports))
 whole_at [] whole path q at = absurd cc
 whole_at (p ∷ ps) whole path q at = elim (cases_Bool (bytes_eq path p.path)) [
   | inl t ↦ (
       let first : Some p ≡ Some q = rw t at at in
       let same : p ≡ q = cc (first) in
-      subst (λ (r : Importable). IsTold (Fine (package' r.exports))) same whole.0)
+      subst (λ (r : Importable). IsDetermined (Fine (package' r.exports))) same whole.0)
   | inr f ↦ whole_at ps whole.1 path q (rw f at at)
 ]
 
@@ -163,19 +163,19 @@ Imported = Place × (List ℕ × Names)
 abbrev import_from : ImportSpec → Option Importable → Option Imported
 import_from spec o = elim o [ None ↦ None | Some p ↦ named_import spec.place (import_name spec.name p.name) p.exports ]
 
-whole_one : (ps : List Importable) → AreWhole (exported ps) → (spec : ImportSpec) (rest : List Imported) → AreWhole (map (λ i. i.1) rest) → (o : Option Importable) → package_at ps spec.path ≡ o
-    → AreWhole (map (λ i. i.1) (cons_option (import_from spec o) rest))
+whole_one : (ps : List Importable) → AllImportsAreKnown (exported ps) → (spec : ImportSpec) (rest : List Imported) → AllImportsAreKnown (map (λ i. i.1) rest) → (o : Option Importable) → package_at ps spec.path ≡ o
+    → AllImportsAreKnown (map (λ i. i.1) (cons_option (import_from spec o) rest))
 whole_one ps whole spec rest h None at = h
 whole_one ps whole spec rest h (Some q) at = elim (cases_Bool (bytes_eq (import_name spec.name q.name) (codes "_"))) [
   | inl blank ↦ rw blank h
   | inr named ↦ rw named (whole_at ps whole spec.path q at, h)
 ]
 
-whole_in : (ps : List Importable) → AreWhole (exported ps) → (specs : List ImportSpec) → AreWhole (map (λ i. i.1) (imports_in ps specs))
+whole_in : (ps : List Importable) → AllImportsAreKnown (exported ps) → (specs : List ImportSpec) → AllImportsAreKnown (map (λ i. i.1) (imports_in ps specs))
 whole_in ps whole [] = tt
 whole_in ps whole (spec ∷ specs) = whole_one ps whole spec (imports_in ps specs) (whole_in ps whole specs) (package_at ps spec.path) refl
 
-whole_files : (ps : List Importable) → AreWhole (exported ps) → (files : List File) (file : ℕ) → AreWhole (unwrap_or (slice_get (imports_of ps files) file) [])
+whole_files : (ps : List Importable) → AllImportsAreKnown (exported ps) → (files : List File) (file : ℕ) → AllImportsAreKnown (unwrap_or (slice_get (imports_of ps files) file) [])
 whole_files ps whole [] file = tt
 whole_files ps whole (f ∷ fs) zero = whole_in ps whole f.imports
 whole_files ps whole (f ∷ fs) (suc file) = whole_files ps whole fs file
@@ -199,12 +199,12 @@ some_there (x ∷ xs) (suc k) lt = some_there xs k (omega (arith, lt))
 -- what is given of a package without fault
 pub record Given (t : Facts) : Type 0 where
   pub table : IsTable t.package t.known
-  pub whole : (file : ℕ) → AreWhole (imports_at t.package file)
+  pub whole : (file : ℕ) → AllImportsAreKnown (imports_at t.package file)
   pub follow : AllFollow t t.package.objects
-  pub none : (k : ℕ) (o : Object) → slice_get t.package.objects k ≡ Some o → object_faults t o ≡ []
+  pub none : (k : ℕ) (o : DeclaredObject) → slice_get t.package.objects k ≡ Some o → object_faults t o ≡ []
   pub grounded : (k : ℕ) → Grounded (rows t.package) k
 
-object_known : (t : Facts) → Given t → (n k : ℕ) → GroundedIn (rows t.package) n k → (o : Object) → slice_get t.package.objects k ≡ Some o → IsOf o.form (declared_in (fine (object_verdict t.package t.known o)))
+object_known : (t : Facts) → Given t → (n k : ℕ) → GroundedIn (rows t.package) n k → (o : DeclaredObject) → slice_get t.package.objects k ≡ Some o → IsOf o.form (declared_in (fine (object_verdict t.package t.known o)))
 object_known t h zero k g o at = absurd g
 object_known t h (suc n) k g o at =
     let p = t.package in
@@ -219,7 +219,7 @@ object_known t h (suc n) k g o at =
     follow_at t p.objects k o h.follow at (λ iota. tells_needs p t.known o.file iota h.table.named (h.whole o.file) (used_by o.form) each) (h.none k o at)
 
 -- what the table has of an object
-pub entry_known : (t : Facts) → Given t → (k : ℕ) (o : Object) → slice_get t.package.objects k ≡ Some o
+pub entry_known : (t : Facts) → Given t → (k : ℕ) (o : DeclaredObject) → slice_get t.package.objects k ≡ Some o
     → (d : Option Declared) × (slice_get t.known k ≡ Some (o.name.text, d)) × IsOf o.form d
 entry_known t h k o at =
     let g = h.grounded k in
@@ -229,28 +229,28 @@ entry_is : (x : List ℕ) (v : Option Declared) (ks : Names) → KnownAt ((x, v)
 entry_is x None ks (y, d, at) = absurd (let no : None ≡ Some d = ap (λ o. second_of o) at in cc (no))
 entry_is x (Some d) ks h = (d, refl)
 
-all_known : (os : List Object) (known : Names) → Named os known → ((k : ℕ) (o : Object) → slice_get os k ≡ Some o → KnownAt known k) → AreKnown known
+all_known : (os : List DeclaredObject) (known : Names) → Named os known → ((k : ℕ) (o : DeclaredObject) → slice_get os k ≡ Some o → KnownAt known k) → AreKnown known
 all_known [] [] e h = tt
 all_known [] (k ∷ ks) e h = absurd cc
 all_known (o ∷ os) [] e h = absurd cc
 all_known (o ∷ os) ((x, v) ∷ ks) e h = (let rest : Named os ks = cc in (entry_is x v ks (h 0 o refl), all_known os ks rest (λ k p at. h (suc k) p at)))
 
-pub given : (edition : Edition) (path : List ℕ) (files : List File) (ps : List Importable) (t : Facts) → AreWhole (exported ps) → AreFacts (package_in edition path files ps) t → package_faults ps t files ≡ [] → Given t
+pub given : (edition : Edition) (path : List ℕ) (files : List File) (ps : List Importable) (t : Facts) → AllImportsAreKnown (exported ps) → AreFacts (package_in edition path files ps) t → package_faults ps t files ≡ [] → Given t
 given edition path files ps t whole are none =
-    let objects : t.package.objects ≡ objects_of files = ap (λ (p : Package). p.objects) are.package_is in
+    let objects : t.package.objects ≡ objects_of files = ap (λ (p : PackageTable). p.objects) are.package_is in
     let declared_none = no_faults ps t files none in
-    let rest = front (each_file (file_faults ps t) 0 files) (packages.constants_faults t files ++ main_faults t files) none in
-    let apart = (front (packages.constants_faults t files) (main_faults t files) rest.1).0 in
-    let marks = subst (λ (p : Package). AreRecursive (rows p) t.recursive) (sym are.package_is) are.recursive in
+    let rest = front (each_file (file_faults ps t) 0 files) (packages.objects_faults t files ++ main_faults t files) none in
+    let apart = (front (packages.objects_faults t files) (main_faults t files) rest.1).0 in
+    let marks = subst (λ (p : PackageTable). AreRecursive (rows p) t.recursive) (sym are.package_is) are.recursive in
     record {
-      table = subst (λ (p : Package). IsTable p t.known) (sym are.package_is) are.known;
-      whole = λ file. subst (λ (p : Package). AreWhole (imports_at p file)) (sym are.package_is) (whole_files ps whole files file);
-      follow = subst (λ (os : List Object). AllFollow t os) (sym objects) (follow_firsts t [] (objects_from 0 files) (files_follow t 0 files declared_none));
-      none = λ k o at. firsts_none t [] (objects_from 0 files) apart k o (subst (λ (os : List Object). slice_get os k ≡ Some o) objects at);
+      table = subst (λ (p : PackageTable). IsTable p t.known) (sym are.package_is) are.known;
+      whole = λ file. subst (λ (p : PackageTable). AllImportsAreKnown (imports_at p file)) (sym are.package_is) (whole_files ps whole files file);
+      follow = subst (λ (os : List DeclaredObject). AllFollow t os) (sym objects) (follow_firsts t [] (objects_from 0 files) (files_follow t 0 files declared_none));
+      none = λ k o at. firsts_none t [] (objects_from 0 files) apart k o (subst (λ (os : List DeclaredObject). slice_get os k ≡ Some o) objects at);
       grounded = faultless_grounded t files objects marks declared_none;
     }
 
-pub objects_known : (edition : Edition) (path : List ℕ) (files : List File) (ps : List Importable) (t : Facts) → AreWhole (exported ps) → AreFacts (package_in edition path files ps) t → package_faults ps t files ≡ [] → AreKnown t.known
+pub objects_known : (edition : Edition) (path : List ℕ) (files : List File) (ps : List Importable) (t : Facts) → AllImportsAreKnown (exported ps) → AreFacts (package_in edition path files ps) t → package_faults ps t files ≡ [] → AreKnown t.known
 objects_known edition path files ps t whole are none =
     let h = given edition path files ps t whole are none in
     all_known t.package.objects t.known h.table.named (λ k o at. (
@@ -259,7 +259,7 @@ objects_known edition path files ps t whole are none =
     (o.name.text, d.0, e.1 ∙ ap (λ (d : Option Declared). Some (o.name.text, d)) d.1)))
 
 -- where each name is known an import of them is whole
-pub known_whole : (names : Names) → AreKnown names → IsTold (Fine (package' names))
+pub known_whole : (names : Names) → AreKnown names → IsDetermined (Fine (package' names))
 known_whole [] h x at = cc
 known_whole ((y, None) ∷ names) h x at = absurd (let k = h.0 in cc)
 known_whole ((y, Some d) ∷ names) h x at = elim (cases_Bool (bytes_eq x y)) [

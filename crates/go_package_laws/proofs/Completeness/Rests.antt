@@ -2,7 +2,7 @@
 use Rattle.std.proofs.Common.{◌≡◌, ℕ, suc, inl, inr, Bool, true, false, List, [], ◌∷◌, ◌++◌, append_assoc, Option, Some, None, sym, ap, ◌∙◌}
 use Rattle.go_text.specs.declared.edition.Edition.{Edition}
 use Rattle.go_scan.specs.declared.token.TokenKind.{TokenKind}
-use Rattle.go_ast.specs.Trees.{Name, TypeExpr, named, qualified, array, slice, struct, Fields, no_fields, field, Expr, name, integer, rune, string, parenthesized, composite_lit, conversion, selector, index, cut, Bound, no_bound, bound, call, type_operand, unary, binary, Exprs, no_exprs, some_exprs, Elements, no_elements, element, Element, expression_element, value_element, Simple, call_statement, increment, decrement, assignment, operator_assignment, short_var_decl}
+use Rattle.go_ast.specs.Trees.{Name, TypeExpr, named, qualified, array, slice, struct, FieldDecls, no_fields, field, Expression, name, integer, rune, string, parenthesized, composite_lit, conversion, selector, index, cut, Bound, no_bound, bound, call, type_operand, unary, binary, ExpressionList, no_exprs, some_exprs, Elements, no_elements, element, Element, expression_element, value_element, Simple, call_statement, increment, decrement, assignment, operator_assignment, short_var_decl}
 use Rattle.go_ast.specs.Operators.{tighter}
 use Rattle.go_ast.specs.Grammar as grammar
 use Rattle.go_ast.specs.Grammar.{Lexeme, Token, Behind, AreItems, AreMoreNames, AreNames, MayBe, IsKey, IsType, AreFields, IsExpr, IsBound, IsTypeOperand, AreOperands, AreArguments, AreElements, IsElement, AreMoreExprs, AreExprs, IsSimple, IsType?, IsExpr?, IsSimple?, AreValues}
@@ -63,14 +63,14 @@ module _ (ed : Edition) where
     type_rest (slice p a) us ws (o, c, vs, xs, may, opens, place, closes, of) = next (token opens) (next (token closes) (type_rest a xs ws of))
     type_rest (struct p fs) us ws (k, o, c, vs, xs, ys, is, place, opens, fields, closes) = next (token is) (next (token opens) (next (fields_rest fs xs ys fields) (token closes)))
 
-    fields_rest : (fs : Fields) (us ws : List Lexeme) → AreFields ed fs us ws → Rest us ws
+    fields_rest : (fs : FieldDecls) (us ws : List Lexeme) → AreFields ed fs us ws → Rest us ws
     fields_rest no_fields us ws h = none h
     fields_rest (field ns a fs) us ws (vs, xs, names, is, behind) = next (names_rest ns us vs names) (next (type_rest a vs xs is) (elim behind [
       | inl h ↦ next (token h.2) (fields_rest fs h.1 ws h.3)
       | inr h ↦ none h.1
     ]))
 
-    pub expr_rest : (n : ℕ) (h : Bool) (e : Expr) (us ws : List Lexeme) → IsExpr ed n h e us ws → Rest us ws
+    pub expr_rest : (n : ℕ) (h : Bool) (e : Expression) (us ws : List Lexeme) → IsExpr ed n h e us ws → Rest us ws
     expr_rest n h (name p x) us ws (t, is, place, text) = token is
     expr_rest n h (integer p x) us ws (t, is, place, text) = token is
     expr_rest n h (rune p x) us ws (t, is, place, text) = token is
@@ -95,7 +95,7 @@ module _ (ed : Edition) where
     bound_rest no_bound us ws h = none h
     bound_rest (bound e) us ws h = expr_rest 5 false e us ws h
 
-    operand_rest : (e : Expr) (us ws : List Lexeme) → IsTypeOperand ed e us ws → Rest us ws
+    operand_rest : (e : Expression) (us ws : List Lexeme) → IsTypeOperand ed e us ws → Rest us ws
     operand_rest (type_operand p a) us ws (may, other, is, place) = type_rest a us ws is
     operand_rest (name p x) us ws h = absurd h
     operand_rest (integer p x) us ws h = absurd h
@@ -111,7 +111,7 @@ module _ (ed : Edition) where
     operand_rest (unary p op e) us ws h = absurd h
     operand_rest (binary p op a b) us ws h = absurd h
 
-    operands_rest : (es : Exprs) (us ws : List Lexeme) → AreOperands ed es us ws → Rest us ws
+    operands_rest : (es : ExpressionList) (us ws : List Lexeme) → AreOperands ed es us ws → Rest us ws
     operands_rest no_exprs us ws h = none h
     operands_rest (some_exprs e es) us ws (vs, first, behind) =
         let front : Rest us vs = elim first [ inl is ↦ expr_rest 5 false e us vs is | inr is ↦ operand_rest e us vs is ] in
@@ -120,7 +120,7 @@ module _ (ed : Edition) where
           | inr h ↦ none h.1
         ])
 
-    arguments_rest : (es : Exprs) (us ws : List Lexeme) → AreArguments ed es us ws → Rest us ws
+    arguments_rest : (es : ExpressionList) (us ws : List Lexeme) → AreArguments ed es us ws → Rest us ws
     arguments_rest no_exprs us ws h = none h
     arguments_rest (some_exprs e es) us ws (vs, is, behind) = next (expr_rest 5 false e us vs is) (elim behind [
       | inl h ↦ next (token h.2) (arguments_rest es h.1 ws h.3)
@@ -138,11 +138,11 @@ module _ (ed : Edition) where
     element_rest (expression_element e) us ws h = expr_rest 5 false e us ws h
     element_rest (value_element p es) us ws (o, c, vs, xs, opens, place, elements, closes) = next (token opens) (next (elements_rest es vs xs elements) (token closes))
 
-  more_exprs_rest : (h : Bool) (es : Exprs) (us ws : List Lexeme) → AreMoreExprs ed h es us ws → Rest us ws
+  more_exprs_rest : (h : Bool) (es : ExpressionList) (us ws : List Lexeme) → AreMoreExprs ed h es us ws → Rest us ws
   more_exprs_rest h no_exprs us ws k = none k
   more_exprs_rest h (some_exprs e es) us ws (c, vs, xs, comma, is, more) = next (token comma) (next (expr_rest 5 h e vs xs is) (more_exprs_rest h es xs ws more))
 
-  pub exprs_rest : (h : Bool) (es : Exprs) (us ws : List Lexeme) → AreExprs ed h es us ws → Rest us ws
+  pub exprs_rest : (h : Bool) (es : ExpressionList) (us ws : List Lexeme) → AreExprs ed h es us ws → Rest us ws
   exprs_rest h no_exprs us ws k = absurd k
   exprs_rest h (some_exprs e es) us ws (vs, is, more) = next (expr_rest 5 h e us vs is) (more_exprs_rest h es vs ws more)
 
@@ -150,11 +150,11 @@ module _ (ed : Edition) where
   maybe_type None us ws h = none h
   maybe_type (Some t) us ws h = type_rest t us ws h
 
-  pub maybe_expr : (e : Option Expr) (us ws : List Lexeme) → IsExpr? ed e us ws → Rest us ws
+  pub maybe_expr : (e : Option Expression) (us ws : List Lexeme) → IsExpr? ed e us ws → Rest us ws
   maybe_expr None us ws h = none h
   maybe_expr (Some e) us ws h = expr_rest 5 true e us ws h
 
-  pub values_rest : (es : Exprs) (us ws : List Lexeme) → AreValues ed es us ws → Rest us ws
+  pub values_rest : (es : ExpressionList) (us ws : List Lexeme) → AreValues ed es us ws → Rest us ws
   values_rest es us ws (t, vs, is, exprs) = next (token is) (exprs_rest false es vs ws exprs)
 
   -- ---- statements

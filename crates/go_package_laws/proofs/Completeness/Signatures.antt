@@ -9,17 +9,17 @@ use Rattle.std.proofs.lemmas.Slice.Eq.{bytes_eq-Decides}
 use Rattle.go_text.specs.declared.place.Place.{Place}
 use Rattle.go_text.specs.declared.fault.FaultKind.{FaultKind}
 use Rattle.go_text.specs.declared.fault.FaultKind.TheVariants.{Redeclared}
-use Rattle.go_ast.specs.Trees.{Name, TypeExpr, Block, block, Parameter, Function}
+use Rattle.go_ast.specs.Trees.{Name, TypeExpr, Block, block, Parameter, FunctionDecl}
 use Rattle.go_types.specs.Types.{Type'}
 use Rattle.go_typed.specs.Trees.{Symbol}
 use Rattle.go_scope.specs.Names.{in_type}
 use Rattle.go_scope.specs.Scopes.{is_blank}
 use Rattle.go_expr.specs.Known.{Declared, function, declared, Fine, Breaks, Scope}
-use Rattle.go_expr.specs.Rules.{fine, differ}
+use Rattle.go_expr.specs.Rules.{fine, are_distinct}
 use Rattle.go_expr.specs.Verdicts.{asked_both, type_verdict, type_faults}
-use Rattle.go_stmt.specs.Scopes.{Env, Context, nothing, scope_in, own, declare_variable}
-use Rattle.go_stmt.specs.Statements.{names_faults, begun, list_at}
-use Rattle.go_stmt.specs.Functions.{declare_parameters, type_at, parameter_at, parameters_at, result_types, results_at, body_at, function_at}
+use Rattle.go_stmt.specs.Scopes.{StatementEnv, Context, nothing, scope_in, own, declare_variable}
+use Rattle.go_stmt.specs.Statements.{names_faults, block_context, list_at}
+use Rattle.go_stmt.specs.Functions.{declare_parameters, type_in_signature, parameter_at, parameters_at, result_types, results_at, body_at, function_at}
 use Rattle.go_objects.specs.Objects.{function'}
 use Rattle.go_objects.specs.Table.{own_names, parameter_names, types_known, parameters_known, function_verdict, declared_in}
 use Rattle.go_package.specs.Faults.{Facts, context_at}
@@ -62,7 +62,7 @@ apart before (y ∷ ys) x there h = elim (cases_Bool (bytes_eq x y)) [
   | inr not_so ↦ rw not_so (apart (before ++ y ∷ []) ys x (any_front x before (y ∷ []) there) h.1)
 ]
 
-all_differ : (before xs : List (List ℕ)) → Fresh before xs → differ xs ≡ true
+all_differ : (before xs : List (List ℕ)) → Fresh before xs → are_distinct xs ≡ true
 all_differ before [] h = refl
 all_differ before (x ∷ xs) h = (let new = apart (before ++ x ∷ []) xs x (any_last x before) h.1 in rw new (all_differ (before ++ x ∷ []) xs h.1))
 
@@ -72,7 +72,7 @@ fresh_both before (x ∷ xs) ys h k = (h.0, fresh_both (before ++ x ∷ []) xs y
 
 -- ---- names of parameters
 
-abbrev held : Env → List (List ℕ)
+abbrev held : StatementEnv → List (List ℕ)
 held env = map (λ n. n.0) env.names.inner
 
 not_held : (x : List ℕ) (block : List (List ℕ × Option Declared)) → is_some (lookup (bytes_eq x) block) ≡ false → list_any (bytes_eq x) (map (λ n. n.0) block) ≡ false
@@ -105,10 +105,10 @@ blank_more ns n blank = own_more ns (n ∷ []) ∙ (let r : own_names (n ∷ [])
 named_more : (ns : List Name) (n : Name) → bytes_eq n.text (codes "_") ≡ false → own_names (ns ++ n ∷ []) ≡ own_names ns ++ n.text ∷ []
 named_more ns n named = own_more ns (n ∷ []) ∙ (let r : own_names (n ∷ []) ≡ n.text ∷ [] = rw named refl in ap (λ l. own_names ns ++ l) r)
 
-abbrev named_already : Env → List Name → Name → List (Place × FaultKind)
+abbrev named_already : StatementEnv → List Name → Name → List (Place × FaultKind)
 named_already env before n = if is_some (own env n) || not (is_blank n.text) && list_any (λ (m : Name). bytes_eq n.text m.text) before then (n.place, Redeclared) ∷ [] else []
 
-new_here : (env : Env) (before : List Name) (n : Name) → bytes_eq n.text (codes "_") ≡ false → named_already env before n ≡ [] → list_any (bytes_eq n.text) (held env ++ own_names before) ≡ false
+new_here : (env : StatementEnv) (before : List Name) (n : Name) → bytes_eq n.text (codes "_") ≡ false → named_already env before n ≡ [] → list_any (bytes_eq n.text) (held env ++ own_names before) ≡ false
 new_here env before n named none = elim (cases_Bool (is_some (own env n))) [
   | inl is ↦ absurd (let r : named_already env before n ≡ (n.place, Redeclared) ∷ [] = rw is refl in cc)
   | inr not_so ↦ elim (cases_Bool (list_any (λ (m : Name). bytes_eq n.text m.text) before)) [
@@ -117,7 +117,7 @@ new_here env before n named none = elim (cases_Bool (is_some (own env n))) [
   ]
 ]
 
-names_fresh : (env : Env) (before ns : List Name) → names_faults env before ns ≡ [] → Fresh (held env ++ own_names before) (own_names ns)
+names_fresh : (env : StatementEnv) (before ns : List Name) → names_faults env before ns ≡ [] → Fresh (held env ++ own_names before) (own_names ns)
 names_fresh env before [] none = tt
 names_fresh env before (n ∷ ns) none =
     let parts = two_none (named_already env before n) (names_faults env (before ++ n ∷ []) ns) none in
@@ -131,11 +131,11 @@ names_fresh env before (n ∷ ns) none =
           rw named (here, subst (λ (l : List (List ℕ)). Fresh l (own_names ns)) longer rest))
     ]
 
-one_held : (x : List ℕ) (t : Option Type') (env : Env) → held (declare_variable x t env) ≡ (if bytes_eq x (codes "_") then held env else held env ++ x ∷ [])
+one_held : (x : List ℕ) (t : Option Type') (env : StatementEnv) → held (declare_variable x t env) ≡ (if bytes_eq x (codes "_") then held env else held env ++ x ∷ [])
 one_held x None env = elim (cases_Bool (bytes_eq x (codes "_"))) [ inl is ↦ rw is refl | inr not_so ↦ rw not_so (map-append (λ n. n.0) env.names.inner ((x, None) ∷ [])) ]
 one_held x (Some t) env = elim (cases_Bool (bytes_eq x (codes "_"))) [ inl is ↦ rw is refl | inr not_so ↦ rw not_so (map-append (λ n. n.0) env.names.inner _) ]
 
-all_held : (ns : List Name) (t : Option Type') (env : Env) → held (declare_parameters ns t env) ≡ held env ++ own_names ns
+all_held : (ns : List Name) (t : Option Type') (env : StatementEnv) → held (declare_parameters ns t env) ≡ held env ++ own_names ns
 all_held [] t env = sym (append-nil (held env))
 all_held (n ∷ ns) t env =
     all_held ns t (declare_variable n.text t env) ∙ ap (λ l. l ++ own_names ns) (one_held n.text t env)
@@ -149,7 +149,7 @@ all_held (n ∷ ns) t env =
 abbrev outer : Context → Scope
 outer c = scope_in c None nothing
 
-parameters_fresh : (c : Context) (ps : List Parameter) (env : Env) → (parameters_at c ps env).faults ≡ [] → Fresh (held env) (parameter_names ps)
+parameters_fresh : (c : Context) (ps : List Parameter) (env : StatementEnv) → (parameters_at c ps env).faults ≡ [] → Fresh (held env) (parameter_names ps)
 parameters_fresh c [] env none = tt
 parameters_fresh c (p ∷ ps) env none =
     let after = (parameter_at c p env).after in
@@ -157,9 +157,9 @@ parameters_fresh c (p ∷ ps) env none =
     let own = two_none (names_faults env [] p.names) (type_faults (outer c) p.type) parts.0 in
     let here = subst (λ (l : List (List ℕ)). Fresh l (own_names p.names)) (append-nil (held env)) (names_fresh env [] p.names own.0) in
     fresh_both (held env) (own_names p.names) (parameter_names ps) here
-    (subst (λ (l : List (List ℕ)). Fresh l (parameter_names ps)) (all_held p.names (type_at c p.type env).known env) (parameters_fresh c ps after parts.1))
+    (subst (λ (l : List (List ℕ)). Fresh l (parameter_names ps)) (all_held p.names (type_in_signature c p.type env).known env) (parameters_fresh c ps after parts.1))
 
-parameters_typed : (c : Context) (ps : List Parameter) (env : Env) → Tells (outer c) (flat_map (λ (p : Parameter). in_type p.type) ps) → (parameters_at c ps env).faults ≡ [] → IsKnown (parameters_known (outer c) ps)
+parameters_typed : (c : Context) (ps : List Parameter) (env : StatementEnv) → Tells (outer c) (flat_map (λ (p : Parameter). in_type p.type) ps) → (parameters_at c ps env).faults ≡ [] → IsKnown (parameters_known (outer c) ps)
 parameters_typed c [] env tells none = ([], refl)
 parameters_typed c (p ∷ ps) env tells none =
     let s = outer c in
@@ -179,12 +179,12 @@ results_typed s (t ∷ ts) tells none =
     joined_known (option_map (λ t. t ∷ []) (fine (type_verdict s t))) (types_known s ts) (mapped (λ t. t ∷ []) (fine (type_verdict s t)) of)
     (results_typed s ts (second s (in_type t) (flat_map in_type ts) tells) ns.1)
 
-results_fine : (c : Context) (rs : List TypeExpr) (b : Block) (env : Env) → (body_at c rs b env).faults ≡ [] → flat_map (type_faults (outer c)) rs ≡ []
+results_fine : (c : Context) (rs : List TypeExpr) (b : Block) (env : StatementEnv) → (body_at c rs b env).faults ≡ [] → flat_map (type_faults (outer c)) rs ≡ []
 results_fine c rs (block p ss q) env none =
-    let list = list_at (record (begun c) { results = result_types c rs }) ss env in
+    let list = list_at (record (block_context c) { results = result_types c rs }) ss env in
     (two_none (results_at c rs env).faults list.faults none).0
 
-signature_known : (s : Scope) (x : Symbol) (ps : List Parameter) (ts : List TypeExpr) → differ (parameter_names ps) ≡ true → IsKnown (parameters_known s ps) → IsKnown (types_known s ts)
+signature_known : (s : Scope) (x : Symbol) (ps : List Parameter) (ts : List TypeExpr) → are_distinct (parameter_names ps) ≡ true → IsKnown (parameters_known s ps) → IsKnown (types_known s ts)
     → IsFunction (declared_in (fine (function_verdict s x ps ts)))
 signature_known s x ps ts apart us rs = (
   x,
@@ -195,7 +195,7 @@ signature_known s x ps ts apart us rs = (
       ∙ ap (λ (o : Option (List Type')). declared_in (fine (asked_both (λ ts rs. Fine (declared (function x ts rs))) (Some us.0) o))) rs.1,
 )
 
-pub function_follows : (t : Facts) (file : ℕ) (f : Function) → (function_at (context_at t file) f).faults ≡ [] → Follows t (record { file = file; begins = f.name.place; name = f.name; form = function' f.parameters f.results })
+pub function_follows : (t : Facts) (file : ℕ) (f : FunctionDecl) → (function_at (context_at t file) f).faults ≡ [] → Follows t (record { file = file; begins = f.name.place; name = f.name; form = function' f.parameters f.results })
 unfolding function_at
 function_follows t file f none tells own =
     let c = context_at t file in

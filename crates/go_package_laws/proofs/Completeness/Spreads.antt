@@ -5,7 +5,7 @@ use Rattle.go_text.specs.declared.edition.Edition.{Edition}
 use Rattle.go_text.specs.declared.place.Place.{Place}
 use Rattle.go_text.specs.Places.{place_at}
 use Rattle.go_scan.specs.declared.token.TokenKind.TheVariants as kinds
-use Rattle.go_ast.specs.Trees.{Name, TypeExpr, Expr, Exprs, Simple, ConstSpec, VarSpec, TypeSpec, Decl, constants, variables, types, Stmt, empty, declaration, simple, return, break, continue, fallthrough, block_statement, if_statement, for_statement, range_statement, switch_statement, Block, block, If, conditional, Else, no_else, else_block, else_if, Stmts, no_stmts, some_stmts, Clauses, no_clauses, clause, Parameter, Function, TopLevel, declared, function, ImportSpec, File}
+use Rattle.go_ast.specs.Trees.{Name, TypeExpr, Expression, ExpressionList, Simple, ConstSpec, VarSpec, TypeSpec, Decl, constants, variables, types, Statement, empty, declaration, simple, return, break, continue, fallthrough, block_statement, if_statement, for_statement, range_statement, switch_statement, Block, block, If, conditional, Else, no_else, else_block, else_if, StatementList, no_stmts, some_stmts, Cases, no_clauses, clause, Parameter, FunctionDecl, TopLevel, declared, function, ImportSpec, File}
 use Rattle.go_ast.specs.Grammar.{Lexeme, Token, AreItems, AreMoreNames, AreNames, IsType, IsConstSpec, IsVarSpec, IsTypeSpec, IsGroup, IsDecl, IsStart, IsForHead, IsRangeName, IsCase, is_last, IsStmt, IsBlock, IsIf, IsElse, AreStmts, AreClauses, IsParameter, AreResults, IsFunction, IsImportSpec, AreImports, AreTopLevels, IsFile}
 use Rattle.go_ast.specs.Grammar as grammar
 use Rattle.go_package_laws.proofs.Completeness.Places.{Rises, rises_from}
@@ -110,17 +110,17 @@ module _ (ed : Edition) where
   start_rest None us ws (inr (t, is)) = token is
   start_rest (Some s) us ws (t, vs, is, last) = next (simple_rest ed true s us vs is) (token last)
 
-  head_rest : (i : Option Simple) (c : Option Expr) (n : Option Simple) (us ws : List Lexeme) → IsForHead ed i c n us ws → Rest us ws
+  head_rest : (i : Option Simple) (c : Option Expression) (n : Option Simple) (us ws : List Lexeme) → IsForHead ed i c n us ws → Rest us ws
   head_rest i c n us ws (inl (first, last, is)) = maybe_expr ed c us ws is
   head_rest i c n us ws (inr (t, r, vs, xs, ys, zs, first, semi, is, again, last, new)) =
       next (maybe_simple ed i us vs first) (next (token semi) (next (maybe_expr ed c xs ys is) (next (token again) (maybe_simple ed n zs ws last))))
 
-  case_rest : (p : Place) (es : Option Exprs) (us ws : List Lexeme) → IsCase ed p es us ws → Rest us ws
+  case_rest : (p : Place) (es : Option ExpressionList) (us ws : List Lexeme) → IsCase ed p es us ws → Rest us ws
   case_rest p None us ws (t, is, place) = token is
   case_rest p (Some es) us ws (t, vs, is, place, values) = next (token is) (exprs_rest ed false es vs ws values)
 
   mutual
-    stmt_rest : (s : Stmt) (us ws : List Lexeme) → IsStmt ed s us ws → Rest us ws
+    stmt_rest : (s : Statement) (us ws : List Lexeme) → IsStmt ed s us ws → Rest us ws
     stmt_rest (empty p) us ws (t, vs, is, place, same) = none same
     stmt_rest (declaration p d) us ws (is, place, local) = spread_rest (decl_names d) us ws (decl_spread d us ws is)
     stmt_rest (simple p s) us ws (is, place) = simple_rest ed false s us ws is
@@ -148,14 +148,14 @@ module _ (ed : Edition) where
     else_rest (else_block b) us ws (t, vs, is, body) = next (token is) (block_rest b vs ws body)
     else_rest (else_if i) us ws (t, vs, is, other) = next (token is) (if_rest i vs ws other)
 
-    stmts_rest : (closed : Bool) (ss : Stmts) (us ws : List Lexeme) → AreStmts ed closed ss us ws → Rest us ws
+    stmts_rest : (closed : Bool) (ss : StatementList) (us ws : List Lexeme) → AreStmts ed closed ss us ws → Rest us ws
     stmts_rest closed no_stmts us ws h = none h
     stmts_rest closed (some_stmts s ss) us ws (vs, is, behind) = next (stmt_rest s us vs is) (elim behind [
       | inl h ↦ next (token h.2) (stmts_rest closed ss h.1 ws h.3)
       | inr h ↦ none h.1
     ])
 
-    clauses_rest : (cs : Clauses) (us ws : List Lexeme) → AreClauses ed cs us ws → Rest us ws
+    clauses_rest : (cs : Cases) (us ws : List Lexeme) → AreClauses ed cs us ws → Rest us ws
     clauses_rest no_clauses us ws h = none h
     clauses_rest (clause p es ss cs) us ws (t, vs, xs, ys, values, colon, stmts, rest) =
         next (case_rest p es us vs values) (next (token colon) (next (stmts_rest (is_last cs) ss xs ys stmts) (clauses_rest cs ys ws rest)))
@@ -170,7 +170,7 @@ module _ (ed : Edition) where
   results_rest rs us ws (inr (inl (a, only, is))) = type_rest ed a us ws is
   results_rest rs us ws (inr (inr (o, c, vs, xs, opens, items, closes))) = next (token opens) (next (items_rest (IsType ed) (type_rest ed) grammar.comma rs vs xs items) (token closes))
 
-  function_spread : (f : Function) (us ws : List Lexeme) → IsFunction ed f us ws → Spread (f.name ∷ []) us ws
+  function_spread : (f : FunctionDecl) (us ws : List Lexeme) → IsFunction ed f us ws → Spread (f.name ∷ []) us ws
   function_spread f us ws (k, t, o, c, vs, xs, ys, zs, end, behind, is, place, named, name, opens, parameters, closes, results, body) = (
     t,
     vs,

@@ -5,13 +5,13 @@ use Rattle.std.specs.List.{slice_get, Contains}
 use Rattle.std.proofs.lemmas.Bool.{cases_Bool}
 use Rattle.ws_reach.proofs.Reached.{contains_get, get_contains}
 use Rattle.go_scope.specs.Names.{Used}
-use Rattle.go_expr.specs.Known.{Declared, Names, package', Fine, look_up, named, universe}
-use Rattle.go_expr.specs.Seen.{iota_of}
-use Rattle.go_objects.specs.Objects.{Object}
-use Rattle.go_objects.specs.Table.{Package, number_of, imports_at, is_hidden, scope_at}
+use Rattle.go_expr.specs.Known.{Declared, Names, package', Fine, look_up_known, named, universe}
+use Rattle.go_expr.specs.Views.{iota_of}
+use Rattle.go_objects.specs.Objects.{DeclaredObject}
+use Rattle.go_objects.specs.Table.{PackageTable, number_of, imports_at, is_hidden, scope_at}
 use Rattle.go_objects.proofs.Lookups.{Named}
 use Rattle.go_objects.proofs.Needs.{needed_of, hidden_need, no_need, one_need}
-use Rattle.go_package_laws.specs.Finds.{IsTold, AreWhole}
+use Rattle.go_package_laws.specs.Finds.{IsDetermined, AllImportsAreKnown}
 use Rattle.go_package_laws.proofs.Completeness.Faultless.{Tells}
 use Rattle.go_package_laws.proofs.Completeness.Packages.{Entries, more, found, universe_told, iota_told}
 
@@ -19,7 +19,7 @@ use Rattle.go_package_laws.proofs.Completeness.Packages.{Entries, more, found, u
 abbrev pub KnownAt : Names → ℕ → Type 0
 KnownAt known k = (x : List ℕ) × (d : Declared) × (slice_get known k ≡ Some (x, Some d))
 
-behind_imports : (is : List (List ℕ × Names)) (x : List ℕ) (rest : Entries) → AreWhole is → (is_hidden is x ≡ false → IsTold (look_up x rest)) → IsTold (look_up x (map (λ i. (i.0, Fine (package' i.1))) is ++ rest))
+behind_imports : (is : List (List ℕ × Names)) (x : List ℕ) (rest : Entries) → AllImportsAreKnown is → (is_hidden is x ≡ false → IsDetermined (look_up_known x rest)) → IsDetermined (look_up_known x (map (λ i. (i.0, Fine (package' i.1))) is ++ rest))
 behind_imports [] x rest w h = h refl
 behind_imports (i ∷ is) x rest w h = elim (cases_Bool (bytes_eq x i.0)) [
   | inl t ↦ rw t w.0
@@ -29,12 +29,12 @@ behind_imports (i ∷ is) x rest w h = elim (cases_Bool (bytes_eq x i.0)) [
 abbrev pub second_of : Option (List ℕ × Option Declared) → Option Declared
 second_of o = elim o [ None ↦ None | Some e ↦ e.1 ]
 
-entry_told : (y : List ℕ) (v : Option Declared) (ks : Names) → KnownAt ((y, v) ∷ ks) 0 → IsTold (named v)
+entry_told : (y : List ℕ) (v : Option Declared) (ks : Names) → KnownAt ((y, v) ∷ ks) 0 → IsDetermined (named v)
 entry_told y None ks (x, d, at) = absurd (let no : None ≡ Some d = ap (λ o. second_of o) at in cc (no))
 entry_told y (Some d) ks k = tt
 
-in_objects : (os : List Object) (known : Names) (x : List ℕ) (rest : Entries) → Named os known → ((n : ℕ) → number_of os x ≡ Some n → KnownAt known n) → IsTold (look_up x rest)
-    → IsTold (look_up x (map (λ n. (n.0, named n.1)) known ++ rest))
+in_objects : (os : List DeclaredObject) (known : Names) (x : List ℕ) (rest : Entries) → Named os known → ((n : ℕ) → number_of os x ≡ Some n → KnownAt known n) → IsDetermined (look_up_known x rest)
+    → IsDetermined (look_up_known x (map (λ n. (n.0, named n.1)) known ++ rest))
 in_objects [] [] x rest e h k = k
 in_objects [] (y ∷ ys) x rest e h k = absurd cc
 in_objects (o ∷ os) [] x rest e h k = absurd cc
@@ -51,8 +51,8 @@ in_objects (o ∷ os) ((y, v) ∷ ks) x rest e h k =
           rw here (in_objects os ks x rest others (λ n at. h (suc n) (rw (f, at) refl)) k))
     ]
 
-told_name : (p : Package) (known : Names) (file : ℕ) (iota : Option ℕ) → Named p.objects known → AreWhole (imports_at p file) → (x : List ℕ)
-    → (is_hidden (imports_at p file) x ≡ false → (n : ℕ) → number_of p.objects x ≡ Some n → KnownAt known n) → IsTold (look_up x (scope_at p known file iota).names)
+told_name : (p : PackageTable) (known : Names) (file : ℕ) (iota : Option ℕ) → Named p.objects known → AllImportsAreKnown (imports_at p file) → (x : List ℕ)
+    → (is_hidden (imports_at p file) x ≡ false → (n : ℕ) → number_of p.objects x ≡ Some n → KnownAt known n) → IsDetermined (look_up_known x (scope_at p known file iota).names)
 told_name p known file iota same whole x h =
     let rest : Entries = iota_of iota ++ universe p.edition in
     behind_imports (imports_at p file) x (map (λ n. (n.0, named n.1)) known ++ rest) whole
@@ -62,7 +62,7 @@ told_name p known file iota same whole x h =
 abbrev AllAt : Names → List ℕ → Type 0
 AllAt known ns = (n : ℕ) → Contains ns n → KnownAt known n
 
-pub tells_needs : (p : Package) (known : Names) (file : ℕ) (iota : Option ℕ) → Named p.objects known → AreWhole (imports_at p file) → (us : List Used)
+pub tells_needs : (p : PackageTable) (known : Names) (file : ℕ) (iota : Option ℕ) → Named p.objects known → AllImportsAreKnown (imports_at p file) → (us : List Used)
     → AllAt known (needed_of p.objects (imports_at p file) us) → Tells (scope_at p known file iota) us
 tells_needs p known file iota same whole [] h = tt
 tells_needs p known file iota same whole (u ∷ us) h =

@@ -4,18 +4,18 @@ use Rattle.std.specs.Prelude.{if◌then◌else◌}
 use Rattle.std.proofs.lemmas.Bool.{cases_Bool}
 use Rattle.go_text.specs.declared.place.Place.{Place}
 use Rattle.go_text.specs.declared.fault.FaultKind.TheVariants.{Mismatch, Assign, Range}
-use Rattle.go_ast.specs.Trees.{Name, Expr, Block, range_statement}
+use Rattle.go_ast.specs.Trees.{Name, Expression, Block, range_statement}
 use Rattle.go_types.specs.Types.{Type'}
 use Rattle.go_types.specs.Relations.{assignable}
 use Rattle.go_typed.specs.Trees as typed
 use Rattle.go_typed.specs.Trees.{expr_type}
-use Rattle.go_expr.specs.Known.{Scope, look_up}
+use Rattle.go_expr.specs.Known.{Scope, look_up_known}
 use Rattle.go_expr.specs.Rules.{fine, is_integer, lies_in, default_type}
 use Rattle.go_expr.specs.Verdicts.{asked, both, operand, verdict, broken}
-use Rattle.go_stmt.specs.Scopes.{Env, Context, scope_in, declare_new, Checked, follow, node, perhaps}
+use Rattle.go_stmt.specs.Scopes.{StatementEnv, Context, scope_in, declare_new, Checked, follow, node, perhaps}
 use Rattle.go_stmt.specs.Rules.{ranged}
-use Rattle.go_stmt.specs.Statements.{value_at, in_loop, range_type, range_names, range_number, is_hidden, block_at, statement_at}
-use Rattle.go_package_laws.specs.Finds.{IsKnown, IsTold}
+use Rattle.go_stmt.specs.Statements.{value_at, in_loop, range_type, range_names, range_number, is_unsure, block_at, statement_at}
+use Rattle.go_package_laws.specs.Finds.{IsKnown, IsDetermined}
 use Rattle.go_package_laws.proofs.Completeness.Rules.{IsAsked}
 use Rattle.go_package_laws.proofs.Completeness.Steps.{ranges}
 use Rattle.go_package_laws.proofs.Completeness.Faultless.{two_none, known}
@@ -23,19 +23,19 @@ use Rattle.go_package_laws.proofs.Completeness.Forms.{Outside, all_told, AllType
 use Rattle.go_package_laws.proofs.Completeness.Leaves.{value_sure}
 use Rattle.go_package_laws.proofs.Completeness.Shown.{all_shown}
 
-abbrev inner_range : Context → Place → Option Name → Expr → Block → Env → Checked (List typed.Stmt)
+abbrev inner_range : Context → Place → Option Name → Expression → Block → StatementEnv → Checked (List typed.Stmt)
 inner_range c p o e b env =
     let s = scope_in c None env in
     let t = range_type (operand (verdict s e)) in
     let change = declare_new (range_names o t) in
-    node p (λ k. ranged (range_number o (change env)) k.0 k.1) (follow (value_at c e) (perhaps (is_hidden s o t b) (λ env. block_at (in_loop c) b (change env)))) env
+    node p (λ k. ranged (range_number o (change env)) k.0 k.1) (follow (value_at c e) (perhaps (is_unsure s o t b) (λ env. block_at (in_loop c) b (change env)))) env
 
 typed_names : (o : Option Name) (t : Option Type') → IsKnown t → AllTyped (range_names o t)
 typed_names None t k = tt
 typed_names (Some n) None k = absurd cc
 typed_names (Some n) (Some t) k = tt
 
-shown : (s : Scope) → ((x : List ℕ) → IsTold (look_up x s.names)) → (o : Option Name) (t : Option Type') (b : Block) → is_hidden s o t b ≡ false
+shown : (s : Scope) → ((x : List ℕ) → IsDetermined (look_up_known x s.names)) → (o : Option Name) (t : Option Type') (b : Block) → is_unsure s o t b ≡ false
 shown s told o None b = all_shown s told _
 shown s told o (Some t) b = refl
 
@@ -56,7 +56,7 @@ ruled : (number : Option ℕ) (a : Option typed.Expr) (b : Option (Option (List 
     → IsAsked (asked (λ k. ranged number k.0 k.1) (both a b))
 ruled number a b e ss at body = rw (at, body) (ranges number e ss)
 
-pub range_sure : (c : Context) → Outside c → (p : Place) (o : Option Name) (e : Expr) (b : Block) → Sure Any (block_at (in_loop c) b) → Sure Any (statement_at c (range_statement p o e b))
+pub range_sure : (c : Context) → Outside c → (p : Place) (o : Option Name) (e : Expression) (b : Block) → Sure Any (block_at (in_loop c) b) → Sure Any (statement_at c (range_statement p o e b))
 range_sure c out p o e b h = sure_inside Any (inner_range c p o e b) (λ env whole none.
     let s = scope_in c None env in
     let v = operand (verdict s e) in
@@ -66,7 +66,7 @@ range_sure c out p o e b h = sure_inside Any (inner_range c p o e b) (λ env who
     let rule = λ (k : typed.Expr × Option (List typed.Stmt)). ranged number k.0 k.1 in
     let body = block_at (in_loop c) b (change env) in
     let told : Bool → Option (Option (List typed.Stmt)) = λ hidden. if hidden then None else Some body.known in
-    let hidden = is_hidden s o t b in
+    let hidden = is_unsure s o t b in
     let visible : hidden ≡ false = shown s (all_told c None env out whole) o t b in
     let all = asked rule (both v (told hidden)) in
     let ns = two_none ((value_at c e env).faults ++ body.faults) (broken p all) none in

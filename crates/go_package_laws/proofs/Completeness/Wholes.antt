@@ -6,21 +6,21 @@ use Rattle.std.specs.List.{flat_map}
 use Rattle.std.proofs.lemmas.Bool.{cases_Bool}
 use Rattle.std.proofs.lemmas.List.{map-append}
 use Rattle.go_text.specs.declared.edition.Edition.{Edition}
-use Rattle.go_ast.specs.Trees.{constants, variables, types, VarSpec, Function, TopLevel, declared, function, File}
+use Rattle.go_ast.specs.Trees.{constants, variables, types, VarSpec, FunctionDecl, TopLevel, declared, function, File}
 use Rattle.go_types.specs.Types.{Type'}
 use Rattle.go_typed.specs.Trees as typed
 use Rattle.go_stmt.specs.Scopes.{Context, nothing}
-use Rattle.go_stmt.specs.Functions.{Parts, whole_at, function_of, function_at}
+use Rattle.go_stmt.specs.Functions.{CheckedParts, whole_at, function_from, function_at}
 use Rattle.go_objects.specs.Objects.{objects_of}
-use Rattle.go_objects.specs.Table.{Package, own_names, imports_at, scope_at}
+use Rattle.go_objects.specs.Table.{PackageTable, own_names, imports_at, scope_at}
 use Rattle.go_package.specs.Faults.{Facts, context_at, var_spec_faults, top_faults, files_faults}
 use Rattle.go_package.specs.Imports.{Importable}
 use Rattle.go_package.specs.Packages.{package_in}
 use Rattle.go_scope.specs.Scopes.{is_blank}
 use Rattle.go_package.specs.Typed.{spec_initializations, top_initializations, top_uses, top_functions, with_numbers, of_files, IsTypedIn}
 use Rattle.go_package.proofs.Whole.{no_faults}
-use Rattle.go_package_laws.specs.Finds.{IsKnown, AreWhole, AreKnown}
-use Rattle.go_package_laws.specs.Whole.{AreParsed, is_constant, is_type, is_variable, objects_named, declared_by, in_files, function_names, with_numbers as names_with_numbers, valued, valued_in, IsWhole}
+use Rattle.go_package_laws.specs.Finds.{IsKnown, AllImportsAreKnown, AreKnown}
+use Rattle.go_package_laws.specs.Whole.{AreParsed, is_constant_form, is_type, is_variable, objects_named, all_declared_by, in_files, function_names, numbered_names as names_with_numbers, valued_names, valued_in, HasAllDeclarations}
 use Rattle.go_package_laws.proofs.Completeness.Faultless.{two_none}
 use Rattle.go_package_laws.proofs.Completeness.Leaves.{Tells}
 use Rattle.go_package_laws.proofs.Completeness.Packages.{outside_told, functions_known}
@@ -46,16 +46,16 @@ two a b c d e f = ap (λ x. x ++ c) e ∙ ap (λ x. b ++ x) f
 abbrev names : List typed.Function → List (List ℕ)
 names fs = map (λ (f : typed.Function). f.name) fs
 
-named_by : (f : Function) (ts : List Type') (o : Option Parts) (g : typed.Function) → option_map (function_of f ts) o ≡ Some g → g.name ≡ f.name.text
+named_by : (f : FunctionDecl) (ts : List Type') (o : Option CheckedParts) (g : typed.Function) → option_map (function_from f ts) o ≡ Some g → g.name ≡ f.name.text
 named_by f ts None g is = absurd cc
-named_by f ts (Some k) g is = (let same : function_of f ts k ≡ g = cc in sym (ap (λ (h : typed.Function). h.name) same))
+named_by f ts (Some k) g is = (let same : function_from f ts k ≡ g = cc in sym (ap (λ (h : typed.Function). h.name) same))
 
-function_named : (c : Context) (f : Function) (g : typed.Function) → (function_at c f).known ≡ Some g → g.name ≡ f.name.text
+function_named : (c : Context) (f : FunctionDecl) (g : typed.Function) → (function_at c f).known ≡ Some g → g.name ≡ f.name.text
 unfolding function_at
 function_named c f g is =
     named_by f (whole_at c f nothing).after.types (whole_at c f nothing).known g is
 
-one_function : (t : Facts) (file : ℕ) (f : Function) → IsKnown (function_at (context_at t file) f).known → names (top_functions t file (function f)) ≡ own_names (f.name ∷ [])
+one_function : (t : Facts) (file : ℕ) (f : FunctionDecl) → IsKnown (function_at (context_at t file) f).known → names (top_functions t file (function f)) ≡ own_names (f.name ∷ [])
 one_function t file f k =
     ap (λ (o : Option typed.Function). names (elim o [ None ↦ [] | Some g ↦ if is_blank f.name.text then [] else g ∷ [] ])) k.1
     ∙ elim (cases_Bool (bytes_eq f.name.text (codes "_"))) [
@@ -63,7 +63,7 @@ one_function t file f k =
       | inr named ↦ rw named (ap (λ x. x ∷ []) (function_named (context_at t file) f k.0 k.1))
     ]
 
-tops_named : (t : Facts) (file : ℕ) → AreWhole (imports_at t.package file) → AreKnown t.known → (tops : List TopLevel) → AllLocal tops → flat_map (top_faults t file) tops ≡ []
+tops_named : (t : Facts) (file : ℕ) → AllImportsAreKnown (imports_at t.package file) → AreKnown t.known → (tops : List TopLevel) → AllLocal tops → flat_map (top_faults t file) tops ≡ []
     → names (flat_map (top_functions t file) tops) ≡ flat_map function_names tops
 tops_named t file whole known [] local none = refl
 tops_named t file whole known (declared d ∷ tops) local none =
@@ -74,7 +74,7 @@ tops_named t file whole known (function f ∷ tops) local none =
     ∙ two (names (top_functions t file (function f))) (own_names (f.name ∷ [])) (names (flat_map (top_functions t file) tops)) (flat_map function_names tops)
     (one_function t file f (functions_known t file f whole known local.0 ns.0)) (tops_named t file whole known tops local.1 ns.1)
 
-functions_named : (edition : Edition) (t : Facts) (number : ℕ) → ((file : ℕ) → AreWhole (imports_at t.package file)) → AreKnown t.known → (files : List File) → AreParsed edition files → files_faults t number files ≡ []
+functions_named : (edition : Edition) (t : Facts) (number : ℕ) → ((file : ℕ) → AllImportsAreKnown (imports_at t.package file)) → AreKnown t.known → (files : List File) → AreParsed edition files → files_faults t number files ≡ []
     → names (of_files (top_functions t) number files) ≡ in_files function_names files
 functions_named edition t number whole known [] are none = refl
 functions_named edition t number whole known (f ∷ fs) are none =
@@ -124,12 +124,12 @@ named_more [] ys = refl
 named_more (x ∷ xs) ys = ap (λ l. x.variables ++ l) (named_more xs ys) ∙ sym (append_assoc x.variables (named_in xs) (named_in ys))
 
 specs_initialized : (t : Facts) (called : List (List ℕ)) (file : ℕ) → Tells (scope_at t.package t.known file None) → (ss : List VarSpec) → flat_map (var_spec_faults t file) ss ≡ []
-    → named_in (flat_map (spec_initializations t called file) ss) ≡ flat_map valued ss
+    → named_in (flat_map (spec_initializations t called file) ss) ≡ flat_map valued_names ss
 specs_initialized t called file tells [] none = refl
 specs_initialized t called file tells (s ∷ ss) none =
     let ns = two_none (var_spec_faults t file s) (flat_map (var_spec_faults t file) ss) none in
     named_more (spec_initializations t called file s) (flat_map (spec_initializations t called file) ss)
-    ∙ two (named_in (spec_initializations t called file s)) (valued s) (named_in (flat_map (spec_initializations t called file) ss)) (flat_map valued ss)
+    ∙ two (named_in (spec_initializations t called file s)) (valued_names s) (named_in (flat_map (spec_initializations t called file) ss)) (flat_map valued_names ss)
     (spec_initialized t called file tells s.names s.type s.values ns.0) (specs_initialized t called file tells ss ns.1)
 
 top_initialized : (t : Facts) (called : List (List ℕ)) (file : ℕ) → Tells (scope_at t.package t.known file None) → (top : TopLevel) → top_faults t file top ≡ [] → named_in (top_initializations t called file top) ≡ valued_in top
@@ -162,17 +162,17 @@ files_initialized t called number tells (f ∷ fs) none =
 
 -- ---- packages
 
-pub typed_whole : (path : List ℕ) (files : List File) (ps : List Importable) (edition : Edition) (file_names : List (List ℕ)) (p : typed.Package) → AreWhole (map (λ (p : Importable). (p.path, p.exports)) ps) → AreParsed edition files
-    → IsTypedIn edition (package_in edition path files ps) files ps file_names p → IsWhole files p
+pub typed_whole : (path : List ℕ) (files : List File) (ps : List Importable) (edition : Edition) (file_names : List (List ℕ)) (p : typed.Package) → AllImportsAreKnown (map (λ (p : Importable). (p.path, p.exports)) ps) → AreParsed edition files
+    → IsTypedIn edition (package_in edition path files ps) files ps file_names p → HasAllDeclarations files p
 typed_whole path files ps edition file_names p whole are of =
     let t = of.facts in
     let h = given edition path files ps t whole of.are of.none in
     let known = objects_known edition path files ps t whole of.are of.none in
-    let objects : t.package.objects ≡ objects_of files = ap (λ (q : Package). q.objects) of.are.package_is in
+    let objects : t.package.objects ≡ objects_of files = ap (λ (q : PackageTable). q.objects) of.are.package_is in
     let none = no_faults ps t files of.none in
-    let all : t.package.objects ≡ declared_by files = objects ∙ nothing_dropped edition path files ps t are of.are of.none in
-    subst (IsWhole files) (sym of.is) (record {
-      constants = constants_whole t h ∙ ap (objects_named is_constant) all;
+    let all : t.package.objects ≡ all_declared_by files = objects ∙ nothing_dropped edition path files ps t are of.are of.none in
+    subst (HasAllDeclarations files) (sym of.is) (record {
+      constants = constants_whole t h ∙ ap (objects_named is_constant_form) all;
       types = types_whole t h ∙ ap (objects_named is_type) all;
       variables = variables_whole t files file_names h objects ∙ ap (objects_named is_variable) all;
       initializations = files_initialized t file_names 0 (λ file. outside_told t file (h.whole file) known None) files none;

@@ -7,7 +7,7 @@ use Rattle.rayon.proofs.ListFacts.{IfOk-then}
 use Rattle.go_text.proofs.fault.Fault.TheSendSync as faults
 use Rattle.go_text.proofs.source.Source.TheSendSync as sources
 use Rattle.go_ast.proofs.Crossing.{parsed_send}
-use Rattle.ws_graph.specs.Discovery.{ComesTo}
+use Rattle.ws_graph.specs.Discovery.{ParsesTo}
 use Rattle.ws_graph.proofs.each_parsed.Goals as goal
 
 pub map-requires-send-U : goal.map-requires-send-U
@@ -25,4 +25,4 @@ returns g c =
     IfOk-then c.collect.result _ _ c.collect.ensures (λ v h.
     let chain = h.1 in
     let base : chain.0 ≡ c.args.files.items = chain.1 ∙ items in
-    rw h.2 (subst (λ l. AllZip (λ s r. ComesTo c.args.edition s r) l h.0) base (rw c.map.ensures.f at chain.2)))
+    rw h.2 (subst (λ l. AllZip (λ s r. ParsesTo c.args.edition s r) l h.0) base (rw c.map.ensures.f at chain.2)))

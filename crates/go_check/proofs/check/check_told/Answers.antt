@@ -3,7 +3,7 @@ use Rattle.std.specs.Arc.{arc_value}
 use Rattle.std.specs.Borrow.{Bor}
 use Rattle.go_ast.specs.declared.file.File.{File}
 use Rattle.go_check.specs.Names.{importable_by}
-use Rattle.go_package.specs.Seen.{files_of, importables_of}
+use Rattle.go_package.specs.Views.{files_of, importables_of}
 use Rattle.go_check.specs.Checked.{AreTrees}
 use Rattle.go_check.proofs.Answered.{within, fault_by}
 use Rattle.go_check.proofs.check.check_told.Goals as goal

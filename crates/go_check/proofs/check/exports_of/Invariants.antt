@@ -1,6 +1,6 @@
 use Rattle.std.proofs.Common.{◌≡◌, ◌++◌, drop, map}
 use Rattle.std.specs.Arc.{arc_value}
-use Rattle.go_expr.specs.Seen.{names_of}
+use Rattle.go_expr.specs.Views.{names_of}
 use Rattle.go_check.specs.Names.{summary_names}
 use Rattle.go_check.proofs.check.exports_of.Given as goal
 

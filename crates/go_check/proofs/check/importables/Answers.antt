@@ -4,7 +4,7 @@ use Rattle.std.proofs.lemmas.Slice.Zip.{zip_turn}
 use Rattle.std.specs.Arc.{arc_value}
 use Rattle.std.specs.Iterator.Adapters.{zip_first, zip_second}
 use Rattle.std.specs.Slice.Iter.{iter_rest}
-use Rattle.go_expr.specs.Seen.{names_of}
+use Rattle.go_expr.specs.Views.{names_of}
 use Rattle.go_export.specs.Summaries.{Summary}
 use Rattle.go_check.specs.Names.{importable_by}
 use Rattle.go_package.specs.declared.import.Importable.{Importable}

@@ -1,7 +1,7 @@
 use Rattle.std.proofs.Common.{◌≡◌, ◌∷◌, take, map, length}
 use Rattle.std.specs.Arc.{arc_value}
 use Rattle.go_check.specs.Names.{importable_by}
-use Rattle.go_package.specs.Seen.{importables_of}
+use Rattle.go_package.specs.Views.{importables_of}
 use Rattle.go_check.specs.Checked.{fmt}
 use Rattle.go_check.proofs.check.importables.Given as goal
 

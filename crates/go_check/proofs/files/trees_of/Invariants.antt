@@ -1,5 +1,5 @@
 use Rattle.std.proofs.Common.{take}
-use Rattle.go_package.specs.Seen.{files_of}
+use Rattle.go_package.specs.Views.{files_of}
 use Rattle.go_check.specs.Checked.{AreTrees}
 use Rattle.go_check.proofs.files.trees_of.Given as goal
 

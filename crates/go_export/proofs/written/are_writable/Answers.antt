@@ -1,6 +1,6 @@
 use Rattle.std.proofs.Common.{rules, ◌≡◌, ◌<◌, ◌+◌, false, Decides, length, get_or, drop, map}
 use Rattle.go_types.specs.Texts.{IsWritable}
-use Rattle.go_types.specs.Views.{type_of}
+use Rattle.go_types.specs.Views.{go_type}
 use Rattle.go_export.proofs.Shown.{refused, one_less, mapped}
 use Rattle.go_export.proofs.written.are_writable.Goals as goal
 
@@ -11,9 +11,9 @@ returns-then-not-is_writable c =
     let of = c.of-item.result in
     let within : i < length types = search rules in
     let at : of ≡ get_or types i of = search rules in
-    let tells : Decides c.is_writable.result (IsWritable (type_of of)) = search rules in
+    let tells : Decides c.is_writable.result (IsWritable (go_type of)) = search rules in
     let no : c.is_writable.result ≡ false = search rules in
-    refused IsWritable (map type_of types) (map type_of (drop i types)) (map type_of (drop (i + 1) types)) (type_of of) (mapped type_of types i of within at) c.is_writable.result tells no c.loop-of.invariant
+    refused IsWritable (map go_type types) (map go_type (drop i types)) (map go_type (drop (i + 1) types)) (go_type of) (mapped go_type types i of within at) c.is_writable.result tells no c.loop-of.invariant
 
 pub loop-of-preserved : goal.loop-of-preserved
 loop-of-preserved c =
@@ -22,5 +22,5 @@ loop-of-preserved c =
     let of = c.of-item.result in
     let within : i < length types = search rules in
     let at : of ≡ get_or types i of = search rules in
-    let here : IsWritable (type_of of) = search rules in
-    one_less IsWritable (map type_of types) (map type_of (drop i types)) (map type_of (drop (i + 1) types)) (type_of of) (mapped type_of types i of within at) here c.loop-of.invariant
+    let here : IsWritable (go_type of) = search rules in
+    one_less IsWritable (map go_type types) (map go_type (drop i types)) (map go_type (drop (i + 1) types)) (go_type of) (mapped go_type types i of within at) here c.loop-of.invariant

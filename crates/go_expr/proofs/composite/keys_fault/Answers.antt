@@ -1,8 +1,8 @@
 use Rattle.std.proofs.Common.{◌≡◌, ◌+◌, ◌<◌, ◌∷◌, ◌++◌, List, [], length, map, drop, ap, ◌∙◌, arith, sym}
 use Rattle.std.specs.List.{flat_map}
 use Rattle.std.proofs.lemmas.Grind.{flat_map-append}
-use Rattle.go_expr.specs.Rules.{key_fault, keys, least, lesser}
-use Rattle.go_expr.specs.Seen.{element_of, fields_seen}
+use Rattle.go_expr.specs.Rules.{key_fault, keys, least, lesser_fault}
+use Rattle.go_expr.specs.Views.{keyed_part, fields_seen}
 use Rattle.go_expr.specs.declared.composite.Element.{Element}
 use Rattle.go_expr.proofs.Elements.{keys_begin}
 use Rattle.go_expr.proofs.Gathering.{fault_next}
@@ -16,10 +16,10 @@ loop-element-preserved c =
     let e = c.element-item.result in
     let within : i < length es = omega arith in
     let kinds = key_fault c.args.path.now (fields_seen c.args.fields.now) in
-    let own = keys (element_of e ∷ []) in
-    let rest = keys (map element_of (drop (i + 1) es)) in
-    let begins : flat_map kinds (keys (map element_of (drop i es))) ≡ flat_map kinds own ++ flat_map kinds rest =
-    ap (λ (l : List Element). flat_map kinds (keys (map element_of l))) (left es i e within c.element-item.is)
-    ∙ ap (flat_map kinds) (keys_begin (element_of e) (map element_of (drop (i + 1) es))) ∙ flat_map-append kinds own rest in
+    let own = keys (keyed_part e ∷ []) in
+    let rest = keys (map keyed_part (drop (i + 1) es)) in
+    let begins : flat_map kinds (keys (map keyed_part (drop i es))) ≡ flat_map kinds own ++ flat_map kinds rest =
+    ap (λ (l : List Element). flat_map kinds (keys (map keyed_part l))) (left es i e within c.element-item.is)
+    ∙ ap (flat_map kinds) (keys_begin (keyed_part e) (map keyed_part (drop (i + 1) es))) ∙ flat_map-append kinds own rest in
     fault_next c.loop-element.fault c.lesser-fault.result c.element_fault.result (flat_map kinds own) (flat_map kinds rest) _ c.lesser-fault.ensures c.element_fault.ensures
-    (ap (λ l. lesser c.loop-element.fault (least l)) (sym begins) ∙ c.loop-element.invariant)
+    (ap (λ l. lesser_fault c.loop-element.fault (least l)) (sym begins) ∙ c.loop-element.invariant)

@@ -1,7 +1,7 @@
 use Rattle.std.proofs.Common.{◌≡◌, ℕ, ◌+◌, ◌∷◌, List, length, map, sym, ap, ◌∙◌, subst, arith, add-one}
-use Rattle.go_typed.specs.Views.{part_of}
+use Rattle.go_typed.specs.Views.{part_view}
 use Rattle.go_expr.specs.Rules.{element_part}
-use Rattle.go_expr.specs.Seen.{element_of, slots_of}
+use Rattle.go_expr.specs.Views.{keyed_part, slots_of}
 use Rattle.go_expr.specs.declared.composite.Element.{Element}
 use Rattle.go_expr.proofs.Elements.{parts_from}
 use Rattle.go_expr.proofs.Gathering.{Leads, begins, takes}
@@ -12,7 +12,7 @@ loop-element-init c =
     let same : c.into_iter-element-iterator.result.rest.items ≡ c.args.elements.items = cc in
     rw same (record {
       counted = omega arith;
-      leads = λ ks e. begins part_of c.new-all.result.values.items c.new-all.result.fault ks _ c.new-all.ensures.values (c.new-all.ensures.fault ∙ e);
+      leads = λ ks e. begins part_view c.new-all.result.values.items c.new-all.result.fault ks _ c.new-all.ensures.values (c.new-all.ensures.fault ∙ e);
     })
 
 pub loop-element-preserved : goal.loop-element-preserved
@@ -24,11 +24,11 @@ loop-element-preserved c =
     let rest = c.next.new.self.rest.items in
     let steps : c.loop-element.element-iterator.rest.items ≡ e ∷ rest = c.in-Some.ensures.steps.0 in
     let longer : length c.loop-element.element-iterator.rest.items ≡ length (e ∷ rest) = ap length steps in
-    let whole = parts_from slot 0 (map element_of c.args.elements.items) in
+    let whole = parts_from slot 0 (map keyed_part c.args.elements.items) in
     record {
       counted = omega (arith, longer, c.loop-element.invariant.counted);
       leads = λ ks is.
-          let here = subst (λ (l : List Element). Leads part_of all.values.items all.fault (parts_from slot n (map element_of l)) ks whole) steps (c.loop-element.invariant.leads ks is) in
-          let before = subst (λ (m : ℕ). Leads part_of all.values.items all.fault (element_part slot n (element_of e) ∷ parts_from slot m (map element_of rest)) ks whole) (sym (add-one n)) here in
-          takes part_of all c.add_element.new.all (parts_from slot (n + 1) (map element_of rest)) ks whole (element_part slot n (element_of e)) c.in_ok-add_element.ensures before;
+          let here = subst (λ (l : List Element). Leads part_view all.values.items all.fault (parts_from slot n (map keyed_part l)) ks whole) steps (c.loop-element.invariant.leads ks is) in
+          let before = subst (λ (m : ℕ). Leads part_view all.values.items all.fault (element_part slot n (keyed_part e) ∷ parts_from slot m (map keyed_part rest)) ks whole) (sym (add-one n)) here in
+          takes part_view all c.add_element.new.all (parts_from slot (n + 1) (map keyed_part rest)) ks whole (element_part slot n (keyed_part e)) c.in_ok-add_element.ensures before;
     }

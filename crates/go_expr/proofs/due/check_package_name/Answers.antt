@@ -2,12 +2,12 @@ use Rattle.std.proofs.Common.{◌≡◌, Option, [], ◌∷◌, sym, ◌∙◌, 
 use Rattle.std.specs.Prelude.{IfErr, OnOk}
 use Rattle.go_text.specs.declared.place.Place.{Place}
 use Rattle.go_text.specs.declared.fault.FaultKind.{FaultKind}
-use Rattle.go_expr.specs.Known.{Known, Verdict, Fine, Breaks, Passed, look_up}
+use Rattle.go_expr.specs.Known.{Known, Verdict, Fine, Breaks, Passed, look_up_known}
 use Rattle.go_expr.specs.Rules.{fine, packaged}
 use Rattle.go_expr.specs.Verdicts.{asked, broken}
 use Rattle.go_expr.specs.declared.error.ExprError.{ExprError}
 use Rattle.go_expr.specs.declared.error.ExprError.TheVariants.{Faulty}
-use Rattle.go_expr.specs.Seen.{scope_of, Fails}
+use Rattle.go_expr.specs.Views.{scope_of, Fails}
 use Rattle.go_expr.proofs.due.check_package_name.Goals as goal
 
 -- of a name that isn't found nothing is known
@@ -30,4 +30,4 @@ returns-in-Ok-clause-none c =
 pub returns-in-Err-Faulty-clause-none : goal.returns-in-Err-Faulty-clause-none
 returns-in-Err-Faulty-clause-none c =
     let err = c.in-Err-Faulty in
-    not_found err.field-0 c.args.place err.field-0-0 err.field-0-1 (look_up c.args.name.now (scope_of c.args.scope.now).names) err.field-0-is err.ensures
+    not_found err.field-0 c.args.place err.field-0-0 err.field-0-1 (look_up_known c.args.name.now (scope_of c.args.scope.now).names) err.field-0-is err.ensures

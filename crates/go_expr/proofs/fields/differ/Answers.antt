@@ -3,13 +3,13 @@ use Rattle.std.specs.Prelude.{position}
 use Rattle.std.specs.Str.{bytes_eq}
 use Rattle.go_types.specs.declared.types.Field.{Field}
 use Rattle.go_scope.proofs.Indexes.{Differing, differing_more, differing_not}
-use Rattle.go_expr.specs.Fields.{field_of}
+use Rattle.go_expr.specs.Fields.{typed_field}
 use Rattle.go_expr.specs.Rules.{field_names}
 use Rattle.go_expr.proofs.Lists.{left}
 use Rattle.go_expr.proofs.fields.differ.Goals as goal
 
 abbrev names : List Field → List (List ℕ)
-names fs = field_names (map field_of fs)
+names fs = field_names (map typed_field fs)
 
 pub returns-then-is_some : goal.returns-then-is_some
 returns-then-is_some c =

@@ -1,7 +1,7 @@
 use Rattle.std.proofs.Common.{◌≡◌, ◌++◌, drop, map}
 use Rattle.go_expr.specs.Rules.{field_names}
-use Rattle.go_expr.specs.Seen.{field_of}
+use Rattle.go_expr.specs.Views.{typed_field}
 use Rattle.go_expr.proofs.fields.names_of.Given as goal
 
 abbrev pub invariant-loop-field : goal.invariant-loop-field
-invariant-loop-field l = l.names ++ field_names (map field_of (drop l.field-index l.fields)) ≡ field_names (map field_of l.fields)
+invariant-loop-field l = l.names ++ field_names (map typed_field (drop l.field-index l.fields)) ≡ field_names (map typed_field l.fields)

@@ -4,7 +4,7 @@ use Rattle.std.specs.Map.{lookup}
 use Rattle.std.specs.Option.{option_map}
 use Rattle.go_text.specs.declared.fault.FaultKind.TheVariants.{Undeclared}
 use Rattle.go_expr.specs.Known.{Known, Verdict, Breaks, named, universe}
-use Rattle.go_expr.specs.Seen.{declared_of, known_of, package_names, iota_of, AnswersAt}
+use Rattle.go_expr.specs.Views.{declared_of, known_of, package_names, iota_of, AnswersAt}
 use Rattle.go_expr.proofs.Lookups.{found_first_or, found_later_or, package_has}
 use Rattle.go_expr.proofs.scope.declared_or_other.Goals as goal
 

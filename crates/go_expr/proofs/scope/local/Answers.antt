@@ -5,7 +5,7 @@ use Rattle.std.specs.Map.{lookup}
 use Rattle.std.specs.Option.{option_map}
 use Rattle.go_expr.specs.declared.known.Declared.{Declared}
 use Rattle.go_expr.specs.Known.{named}
-use Rattle.go_expr.specs.Seen.{declared_of, local_names}
+use Rattle.go_expr.specs.Views.{declared_of, local_names}
 use Rattle.go_expr.proofs.Lists.{copied}
 use Rattle.go_expr.proofs.Lookups.{found_seen}
 use Rattle.go_expr.proofs.scope.local.Goals as goal

@@ -4,7 +4,7 @@ use Rattle.std.specs.List.{list_any}
 use Rattle.std.specs.Map.{lookup}
 use Rattle.go_text.specs.declared.fault.FaultKind.TheVariants.{Undeclared, LeftOut}
 use Rattle.go_expr.specs.Known.{Known, Verdict, Breaks, left_out, slice_functions, others}
-use Rattle.go_expr.specs.Seen.{known_of, AnswersAt}
+use Rattle.go_expr.specs.Views.{known_of, AnswersAt}
 use Rattle.go_expr.proofs.Lookups.{found_among, found_first_or, found_later_or}
 use Rattle.go_expr.proofs.universe.left_out_or_other.Goals as goal
 

@@ -6,7 +6,7 @@ use Rattle.go_text.specs.declared.edition.Edition.{Edition}
 use Rattle.go_text.specs.declared.fault.FaultKind.TheVariants.{Undeclared, LeftOut}
 use Rattle.go_types.specs.Types.{basic}
 use Rattle.go_expr.specs.Known.{Known, declared, type', Verdict, Fine, Breaks, basic_types, left_out, slice_functions, others, universe}
-use Rattle.go_expr.specs.Seen.{known_of, AnswersAt}
+use Rattle.go_expr.specs.Views.{known_of, AnswersAt}
 use Rattle.go_expr.proofs.Lookups.{found_seen, found_first_or, found_later_or}
 use Rattle.go_expr.proofs.universe.predeclared.Goals as goal
 

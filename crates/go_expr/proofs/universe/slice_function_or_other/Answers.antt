@@ -5,7 +5,7 @@ use Rattle.std.specs.Option.{option_map}
 use Rattle.go_text.specs.declared.edition.Edition.TheVariants.{Two}
 use Rattle.go_text.specs.declared.fault.FaultKind.TheVariants.{Undeclared, LeftOut}
 use Rattle.go_expr.specs.Known.{Known, Verdict, Fine, Breaks, slice_functions, others}
-use Rattle.go_expr.specs.Seen.{known_of}
+use Rattle.go_expr.specs.Views.{known_of}
 use Rattle.go_expr.proofs.Lookups.{found_first_or, found_later_or}
 use Rattle.go_expr.proofs.SliceFunctions.{with_slices, without_slices, no_function}
 use Rattle.go_expr.proofs.universe.slice_function_or_other.Goals as goal

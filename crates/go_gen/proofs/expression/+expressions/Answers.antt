@@ -2,7 +2,7 @@ use Rattle.std.proofs.Common.{refl, sym, subst, arith}
 use Rattle.std.proofs.lemmas.Result.{on_ok_weaker}
 use Rattle.go_gen.specs.Translation.{AreOffsets}
 use Rattle.go_gen.specs.Views.{places_of}
-use Rattle.go_types.specs.Views.{type_of}
+use Rattle.go_types.specs.Views.{go_type}
 use Rattle.go_gen.proofs.Emitted.{row_back, field_emitted, index_emitted, binary_emitted, both_emitted, either_emitted, literal_emitted, call_emitted, exprs_step, exprs_left, parts_step, parts_left}
 use Rattle.go_gen.proofs.Sliced.{length_emitted, elements_emitted, elements_form, tail_form, cut_form, make_within_form, append_form}
 use Rattle.go_gen.proofs.expression.+expressions.Goals as goal
@@ -113,7 +113,7 @@ emit_parts-loop-i-preserved t c =
     let p = places_of c.args.layout.now in
     let row = row_back c.args.parts.now c.loop-i.i _ c.index-parts-i.is (omega arith) (omega arith) in
     record {
-      code = parts_step p c.args.k (type_of c.args.of.now) c.args.at c.args.parts.now c.loop-i.i _ c.loop-i.behind _ _ _ _ _ _ _ _ _ _ row
+      code = parts_step p c.args.k (go_type c.args.of.now) c.args.at c.args.parts.now c.loop-i.i _ c.loop-i.behind _ _ _ _ _ _ _ _ _ _ row
           c.in_ok-expr_temps.ensures c.in_ok-behind-2.ensures c.in_ok-offset_by.ensures c.in_ok-first.ensures c.in_ok-cells.ensures c.store.ensures c.loop-i.invariant.code c.in_ok-put.ensures c.in_ok-emit_expr.ensures;
       behind = parts_left p c.args.k c.args.parts.now c.loop-i.i _ c.loop-i.behind _ _ _ row c.in_ok-expr_temps.ensures c.in_ok-behind-2.ensures c.loop-i.invariant.behind;
     }
@@ -121,14 +121,14 @@ emit_parts-loop-i-preserved t c =
 pub emit_length-returns : goal.emit_length-returns
 emit_length-returns t c =
     on_ok_weaker c.emit_expr.result
-    (length_emitted (places_of c.args.layout.now) c.args.k (type_of c.args.of.now) c.args.operand.now _ _ _ _ c.underlying.ensures c.in_ok-put_length.ensures)
+    (length_emitted (places_of c.args.layout.now) c.args.k (go_type c.args.of.now) c.args.operand.now _ _ _ _ c.underlying.ensures c.in_ok-put_length.ensures)
     c.emit_expr.ensures
 
 pub emit_elements-returns : goal.emit_elements-returns
 emit_elements-returns t c =
     on_ok_weaker c.emit_zero.result
-    (elements_emitted (places_of c.args.layout.now) c.args.k (type_of c.args.of.now) c.args.es.now _ _ _ _ c.in_ok-put_append.ensures c.in_ok-emit_exprs.ensures)
+    (elements_emitted (places_of c.args.layout.now) c.args.k (go_type c.args.of.now) c.args.es.now _ _ _ _ c.in_ok-put_append.ensures c.in_ok-emit_exprs.ensures)
     c.emit_zero.ensures
 
 pub emit_parts-offset_by-requires : goal.emit_parts-offset_by-requires
-emit_parts-offset_by-requires t c = subst (AreOffsets (type_of c.args.of.now)) (sym c.as_slice.ensures.value) c.in_ok-offsets.ensures
+emit_parts-offset_by-requires t c = subst (AreOffsets (go_type c.args.of.now)) (sym c.as_slice.ensures.value) c.in_ok-offsets.ensures

@@ -1,6 +1,6 @@
 use Rattle.std.proofs.Common.{◌≡◌, ◌+◌, ◌++◌, drop, map, length, reverse}
 use Rattle.go_typed.specs.Views.{stmts_in, clauses_in}
-use Rattle.go_gen.specs.Translation.{stmts_code, stmts_temps, bodies_code, bodies_temps, joined}
+use Rattle.go_gen.specs.Translation.{stmts_code, stmts_temps, bodies_code, bodies_temps, concat_code}
 use Rattle.go_gen.specs.Views.{places_of}
 use Rattle.go_gen.proofs.statement.+statements.Given as goal
 
@@ -12,7 +12,7 @@ invariant-emit_stmts-loop-i l = record {
 
 abbrev pub invariant-emit_bodies-loop-i : goal.invariant-emit_bodies-loop-i
 invariant-emit_bodies-loop-i l = record {
-  code : l.code ≡ joined (bodies_code (places_of l.layout) l.behind (clauses_in (drop l.i l.clauses)) l.c) ++ l.initial.code;
+  code : l.code ≡ concat_code (bodies_code (places_of l.layout) l.behind (clauses_in (drop l.i l.clauses)) l.c) ++ l.initial.code;
   behind : l.behind + bodies_temps (clauses_in (drop l.i l.clauses)) ≡ l.k + bodies_temps (clauses_in l.clauses);
   sizes : reverse l.sizes.items ≡ map length (bodies_code (places_of l.layout) l.behind (clauses_in (drop l.i l.clauses)) l.c);
 }

@@ -8,7 +8,7 @@ use Rattle.go_typed.specs.Trees.{Initialization, Package}
 use Rattle.go_typed.specs.Views.{initialization_of, typed_of}
 use Rattle.go_typed.specs.declared.package.TypedInitialization.{TypedInitialization}
 use Rattle.go_init.specs.Variables.{variable_order}
-use Rattle.go_init.specs.Views.{IsTold}
+use Rattle.go_init.specs.Views.{IsInitError}
 use Rattle.go_init.specs.declared.error.InitError.{InitError}
 use Rattle.go_init.specs.declared.error.InitError.TheVariants as errors
 use Rattle.go_init.proofs.Ordered.{first_left, nothing_left, ordered}
@@ -29,7 +29,7 @@ returns-in-None-clause-whole c =
     nothing_left p order c.in_ok-order.ensures all
 
 -- an error that names the file and the place of the first that is left over
-told : (p : Package) (error : InitError) (i : Initialization) (rest : List Initialization) → (variable_order p).1 ≡ i ∷ rest → ((file : String Global) (place : Place) → error ≡ errors.Cycle file place → (string_bytes file ≡ i.file) × (place ≡ i.place)) → IsTold p error
+told : (p : Package) (error : InitError) (i : Initialization) (rest : List Initialization) → (variable_order p).1 ≡ i ∷ rest → ((file : String Global) (place : Place) → error ≡ errors.Cycle file place → (string_bytes file ≡ i.file) × (place ≡ i.place)) → IsInitError p error
 told p (errors.Cycle file place) i rest left is = (let at = is file place refl in (i, rest, left, sym at.0, sym at.1))
 told p errors.Memory i rest left is = tt
 

@@ -1,7 +1,7 @@
 use Rattle.std.proofs.Common.{◌≡◌, ◌++◌, map, drop}
 use Rattle.std.specs.Arc.{arc_value}
-use Rattle.go_link.specs.Links.{in_order}
+use Rattle.go_link.specs.Links.{objects_in_order}
 use Rattle.go_link.proofs.link.packages_in_order.Given as goal
 
 abbrev pub invariant-loop-index : goal.invariant-loop-index
-invariant-loop-index l = map arc_value l.packages.items ++ in_order (map arc_value l.objects) (drop l.index-index l.order) ≡ in_order (map arc_value l.objects) l.order
+invariant-loop-index l = map arc_value l.packages.items ++ objects_in_order (map arc_value l.objects) (drop l.index-index l.order) ≡ objects_in_order (map arc_value l.objects) l.order

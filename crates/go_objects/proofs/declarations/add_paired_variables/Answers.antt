@@ -3,8 +3,8 @@ use Rattle.std.proofs.lemmas.List.{append-nil, length_push}
 use Rattle.std.proofs.lemmas.Slice.Zip.{zip_turn, zip_end}
 use Rattle.go_text.specs.declared.place.Place.{Place}
 use Rattle.go_ast.specs.Views.{expr_of}
-use Rattle.go_objects.specs.Objects.{Object, valued_variable, valued_object}
-use Rattle.go_objects.specs.Seen.{object_of}
+use Rattle.go_objects.specs.Objects.{DeclaredObject, valued_variable, valued_object}
+use Rattle.go_objects.specs.Views.{object_view}
 use Rattle.go_objects.proofs.Pairs.{pairs, pairs_next, pairs_done, pushed, variables_paired}
 use Rattle.go_objects.proofs.declarations.add_paired_variables.Goals as goal
 
@@ -15,7 +15,7 @@ loop-name-preserved c =
     let form = valued_object c.args.file names in
     let k = length c.loop-name.yielded in
     let turn = zip_turn names values c.loop-name.yielded c.into_iter-name-iterator.result c.loop-name.name-iterator c.next.new.self c.next.result (cc) (cc) c.loop-name.yielded_by (c.in-Some.name, c.in-Some.value) c.in-Some.is c.next.ensures.steps in
-    let begins : Place → Object = λ p. record { file = c.args.file; begins = p; name = c.in-Some.name.now; form = valued_variable (expr_of c.in-Some.value.now) } in
+    let begins : Place → DeclaredObject = λ p. record { file = c.args.file; begins = p; name = c.in-Some.name.now; form = valued_variable (expr_of c.in-Some.value.now) } in
     let begun = ap begins c.begin_of.ensures in
     pushed c.loop-name.found.items c.push.new.self.items _ (form c.in-Some.name.now (expr_of c.in-Some.value.now)) (pairs form (drop k names) (drop k values)) _ _ c.in_ok-push.ensures.items
     begun
@@ -30,8 +30,8 @@ returns c =
     let form = valued_object c.args.file names in
     let finish = zip_end names values c.loop-name.yielded c.into_iter-name-iterator.result c.loop-name.name-iterator c.next.new.self c.next.result (cc) (cc) c.loop-name.yielded_by c.in-None.is c.next.ensures.steps in
     let all : length names ≡ length c.loop-name.yielded = omega (arith, finish, c.requires) in
-    let old = map object_of c.args.found.now.items in
-    sym (append-nil (map object_of c.loop-name.found.items))
-    ∙ ap (λ (l : List Object). map object_of c.loop-name.found.items ++ l) (sym (pairs_done form names values (length c.loop-name.yielded) all))
+    let old = map object_view c.args.found.now.items in
+    sym (append-nil (map object_view c.loop-name.found.items))
+    ∙ ap (λ (l : List DeclaredObject). map object_view c.loop-name.found.items ++ l) (sym (pairs_done form names values (length c.loop-name.yielded) all))
     ∙ c.loop-name.invariant
-    ∙ ap (λ (l : List Object). old ++ l) (sym (variables_paired c.args.file names values c.requires))
+    ∙ ap (λ (l : List DeclaredObject). old ++ l) (sym (variables_paired c.args.file names values c.requires))

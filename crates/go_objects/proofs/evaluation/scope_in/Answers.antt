@@ -1,4 +1,4 @@
-use Rattle.go_expr.specs.Seen.{scope_of}
+use Rattle.go_expr.specs.Views.{scope_of}
 use Rattle.go_objects.specs.Packages.{package_of}
 use Rattle.go_objects.proofs.Standing.{stands}
 use Rattle.go_objects.proofs.evaluation.scope_in.Goals as goal

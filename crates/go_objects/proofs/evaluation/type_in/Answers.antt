@@ -1,7 +1,7 @@
 use Rattle.std.proofs.Common.{sym}
 use Rattle.go_ast.specs.Views.{type_of}
 use Rattle.go_expr.specs.Verdicts.{type_faults}
-use Rattle.go_expr.specs.Seen.{scope_of}
+use Rattle.go_expr.specs.Views.{scope_of}
 use Rattle.go_expr.proofs.Fineness.{faulty_type_unknown}
 use Rattle.go_objects.proofs.Silence.{first_fault, not_none}
 use Rattle.go_objects.proofs.evaluation.type_in.Goals as goal

@@ -1,6 +1,6 @@
 use Rattle.std.proofs.Common.{◌≤◌, length, arith}
 use Rattle.std.specs.Prelude.{option_map}
-use Rattle.go_expr.specs.Seen.{declared_of}
+use Rattle.go_expr.specs.Views.{declared_of}
 use Rattle.go_objects.proofs.Written.{written, not_written}
 use Rattle.go_objects.proofs.table.put.Goals as goal
 

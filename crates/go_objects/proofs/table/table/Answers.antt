@@ -5,7 +5,7 @@ use Rattle.std.proofs.lemmas.Option.{slice_get-get_or}
 use Rattle.ws_reach.specs.Reach.{EdgesStayWithin, rows_of}
 use Rattle.ws_reach.proofs.Rows.{length-rows}
 use Rattle.go_scope.specs.Order.{Grounded, Ordered, Once}
-use Rattle.go_expr.specs.Seen.{names_of}
+use Rattle.go_expr.specs.Views.{names_of}
 use Rattle.go_objects.specs.Table.{rows}
 use Rattle.go_objects.specs.Packages.{package_of}
 use Rattle.go_objects.proofs.Filling.{Filled, filled_none, filled_step, filled_table}

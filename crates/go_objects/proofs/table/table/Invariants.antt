@@ -1,4 +1,4 @@
-use Rattle.go_expr.specs.Seen.{names_of}
+use Rattle.go_expr.specs.Views.{names_of}
 use Rattle.go_objects.specs.Packages.{package_of}
 use Rattle.go_objects.proofs.Filling.{Filled}
 use Rattle.go_objects.proofs.table.table.Given as goal

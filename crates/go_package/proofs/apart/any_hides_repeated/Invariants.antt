@@ -1,9 +1,9 @@
 use Rattle.std.proofs.Common.{◌≡◌, drop, map}
 use Rattle.std.specs.List.{list_any}
 use Rattle.go_scope.specs.Names.{used}
-use Rattle.go_expr.specs.Seen.{scope_of}
+use Rattle.go_expr.specs.Views.{scope_of}
 use Rattle.go_package.specs.Faults.{hides_repeated}
-use Rattle.go_package.specs.Seen.{facts_of}
+use Rattle.go_package.specs.Views.{facts_of}
 use Rattle.go_package.proofs.apart.any_hides_repeated.Given as goal
 
 abbrev pub invariant-loop-name : goal.invariant-loop-name

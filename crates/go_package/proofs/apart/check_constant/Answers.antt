@@ -1,9 +1,9 @@
 use Rattle.std.proofs.Common.{◌++◌}
 use Rattle.std.specs.Option.{option_map}
 use Rattle.go_ast.specs.Views.{expr_of, type_of as type_tree}
-use Rattle.go_types.specs.Views.{type_of}
-use Rattle.go_typed.specs.Views.{expr_of as typed_expr}
-use Rattle.go_expr.specs.Seen.{scope_of}
+use Rattle.go_types.specs.Views.{go_type}
+use Rattle.go_typed.specs.Views.{as_expr as typed_expr}
+use Rattle.go_expr.specs.Views.{scope_of}
 use Rattle.go_expr.specs.Verdicts.{verdict, operand_broken, faults}
 use Rattle.go_stmt.specs.Statements.{written_faults}
 use Rattle.go_stmt.proofs.Repeats.{is_faulty}
@@ -14,7 +14,7 @@ pub returns-in-Ok : goal.returns-in-Ok
 returns-in-Ok c =
     let t = option_map (λ t. type_tree t.now) c.args.type_expr in
     let own = c.in-Ok.own in
-    own_found c.check_parts.result (scope_of c.args.scope.now) c.args.place t (expr_of c.args.value.now) (option_map (option_map type_of) own.of) (option_map typed_expr own.value)
+    own_found c.check_parts.result (scope_of c.args.scope.now) c.args.place t (expr_of c.args.value.now) (option_map (option_map go_type) own.of) (option_map typed_expr own.value)
     c.in-Ok.ensures.faults c.in-Ok.ensures.of c.in-Ok.ensures.value c.check_parts.ensures
 
 pub returns-in-Err-Faulty : goal.returns-in-Err-Faulty

@@ -1,7 +1,7 @@
 use Rattle.std.proofs.Common.{sym, ◌∙◌}
 use Rattle.std.specs.Option.{option_map}
 use Rattle.go_ast.specs.Views.{expr_of, type_of as type_tree}
-use Rattle.go_expr.specs.Seen.{scope_of}
+use Rattle.go_expr.specs.Views.{scope_of}
 use Rattle.go_stmt.specs.Statements.{first_fault, written_faults}
 use Rattle.go_stmt.proofs.Repeats.{least_of_both}
 use Rattle.go_package.proofs.Own.{of_value, least_found, never_least}

@@ -2,7 +2,7 @@ use Rattle.std.proofs.Common.{◌≡◌, drop, map}
 use Rattle.std.specs.List.{list_any}
 use Rattle.go_scope.specs.Names.{used}
 use Rattle.go_package.specs.Faults.{hides}
-use Rattle.go_package.specs.Seen.{facts_of}
+use Rattle.go_package.specs.Views.{facts_of}
 use Rattle.go_package.proofs.apart.is_hidden.Given as goal
 
 abbrev pub invariant-loop-name : goal.invariant-loop-name

@@ -4,7 +4,7 @@ use Rattle.std.specs.Global.{Global}
 use Rattle.std.proofs.lemmas.Option.{slice_get-map}
 use Rattle.go_expr.specs.Known as known
 use Rattle.go_expr.specs.declared.known.Declared.{Declared}
-use Rattle.go_expr.specs.Seen.{declared_of}
+use Rattle.go_expr.specs.Views.{declared_of}
 use Rattle.go_package.proofs.apart.is_known.Goals as goal
 
 abbrev seen : String Global × Option Declared → List ℕ × Option known.Declared

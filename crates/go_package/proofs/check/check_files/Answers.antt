@@ -1,7 +1,7 @@
 use Rattle.std.proofs.Common.{◌<◌, length, arith}
 use Rattle.std.proofs.lemmas.Result.{err_from_is_err_and}
 use Rattle.go_package.specs.Packages.{file_faults}
-use Rattle.go_package.specs.Seen.{facts_of, texts_of, importables_of, initial_in, uses_in, functions_in}
+use Rattle.go_package.specs.Views.{facts_of, texts_in, importables_of, initial_in, uses_in, functions_in}
 use Rattle.go_package.specs.Typed.{top_initializations, top_uses, top_functions}
 use Rattle.go_package.proofs.Several.{each_here, each_later}
 use Rattle.go_package.proofs.Walks.{more_files}
@@ -17,7 +17,7 @@ returns-in_err-check_numbered-clause-faults c =
 pub loop-number-preserved : goal.loop-number-preserved
 loop-number-preserved c =
     let t = facts_of c.args.facts.now in
-    let names = texts_of c.args.names.now in
+    let names = texts_in c.args.names.now in
     let files = c.args.files.now in
     let i = c.loop-number.number in
     let d = c.index-files-number.result in

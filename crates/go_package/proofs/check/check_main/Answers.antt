@@ -1,5 +1,5 @@
 use Rattle.std.proofs.lemmas.Result.{err_from_is_err_and}
-use Rattle.go_package.specs.Seen.{facts_of}
+use Rattle.go_package.specs.Views.{facts_of}
 use Rattle.go_package.proofs.Several.{main_here, main_later}
 use Rattle.go_package.proofs.check.check_main.Goals as goal
 

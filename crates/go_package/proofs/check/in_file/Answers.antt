@@ -1,5 +1,5 @@
 use Rattle.std.proofs.Common.{map, ap, subst}
-use Rattle.go_expr.specs.Seen.{Fails}
+use Rattle.go_expr.specs.Views.{Fails}
 use Rattle.go_package.proofs.check.in_file.Goals as goal
 
 pub returns-in-Faulty : goal.returns-in-Faulty

@@ -2,9 +2,9 @@ use Rattle.std.proofs.Common.{◌≡◌, ◌<◌, nat_eq, List, length, ap, ◌�
 use Rattle.go_ast.specs.declared.expression.Expr.{Expr}
 use Rattle.std.proofs.lemmas.Result.{err_from_is_err_and}
 use Rattle.go_ast.specs.Views.{const_of}
-use Rattle.go_objects.specs.Seen.{spec_of}
+use Rattle.go_objects.specs.Views.{spec_of}
 use Rattle.go_scope.specs.Specifications.{is_repeated}
-use Rattle.go_package.specs.Seen.{facts_of}
+use Rattle.go_package.specs.Views.{facts_of}
 use Rattle.go_package.proofs.Groups.{none_written, group_here, group_later}
 use Rattle.go_package.proofs.constants.check_group.Goals as goal
 

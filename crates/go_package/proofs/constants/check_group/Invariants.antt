@@ -1,9 +1,9 @@
 use Rattle.std.proofs.Common.{◌≡◌, [], None, drop, map}
 use Rattle.go_ast.specs.Trees.{no_exprs}
 use Rattle.go_ast.specs.Views.{const_of}
-use Rattle.go_objects.specs.Seen.{spec_of}
+use Rattle.go_objects.specs.Views.{spec_of}
 use Rattle.go_package.specs.Faults.{group_faults}
-use Rattle.go_package.specs.Seen.{facts_of}
+use Rattle.go_package.specs.Views.{facts_of}
 use Rattle.go_package.proofs.constants.check_group.Given as goal
 
 abbrev pub invariant-loop-iota : goal.invariant-loop-iota

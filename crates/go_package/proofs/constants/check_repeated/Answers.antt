@@ -1,8 +1,8 @@
 use Rattle.std.proofs.Common.{◌++◌}
-use Rattle.go_expr.specs.Seen.{scope_of}
+use Rattle.go_expr.specs.Views.{scope_of}
 use Rattle.go_expr.specs.Verdicts.{operands_faults}
 use Rattle.go_stmt.specs.Statements.{written_faults}
-use Rattle.go_objects.specs.Seen.{spec_of}
+use Rattle.go_objects.specs.Views.{spec_of}
 use Rattle.go_package.proofs.Repeated.{some_faulty}
 use Rattle.go_package.proofs.constants.check_repeated.Goals as goal
 

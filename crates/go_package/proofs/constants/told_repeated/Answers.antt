@@ -1,7 +1,7 @@
 use Rattle.std.proofs.Common.{sym, ◌∙◌}
-use Rattle.go_expr.specs.Seen.{scope_of}
-use Rattle.go_objects.specs.Seen.{spec_of}
-use Rattle.go_package.specs.Seen.{facts_of}
+use Rattle.go_expr.specs.Views.{scope_of}
+use Rattle.go_objects.specs.Views.{spec_of}
+use Rattle.go_package.specs.Views.{facts_of}
 use Rattle.go_package.proofs.Repeated.{nothing_told, least_told, never_none}
 use Rattle.go_package.proofs.constants.told_repeated.Goals as goal
 

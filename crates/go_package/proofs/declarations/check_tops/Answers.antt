@@ -1,7 +1,7 @@
 use Rattle.std.proofs.Common.{◌<◌, ◌∙◌, length, arith}
 use Rattle.go_ast.specs.Views.{top_of}
 use Rattle.go_package.specs.Faults.{top_faults}
-use Rattle.go_package.specs.Seen.{facts_of, texts_of, initial_in, functions_in}
+use Rattle.go_package.specs.Views.{facts_of, texts_in, initial_in, functions_in}
 use Rattle.go_package.specs.Typed.{top_initializations, top_functions}
 use Rattle.go_package.proofs.Walks.{later, more}
 use Rattle.go_package.proofs.declarations.check_tops.Goals as goal
@@ -9,7 +9,7 @@ use Rattle.go_package.proofs.declarations.check_tops.Goals as goal
 pub loop-top-preserved : goal.loop-top-preserved
 loop-top-preserved c =
     let t = facts_of c.args.facts.now in
-    let names = texts_of c.args.names.now in
+    let names = texts_in c.args.names.now in
     let file = c.args.file in
     let tops = c.args.tops.now in
     let i = c.loop-top.top-index in

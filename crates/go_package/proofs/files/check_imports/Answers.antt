@@ -4,7 +4,7 @@ use Rattle.std.specs.Option.{option_map}
 use Rattle.std.proofs.lemmas.Result.{err_from_is_err_and}
 use Rattle.go_scope.proofs.Indexes.{is_some_position}
 use Rattle.go_ast.specs.Views.{file_of, import_of}
-use Rattle.go_package.specs.Seen.{facts_of, importable_of, imported_of}
+use Rattle.go_package.specs.Views.{facts_of, importable_view, imported_of}
 use Rattle.go_package.proofs.Dotted.{is_referred}
 use Rattle.go_package.specs.Imports.{imports_in}
 use Rattle.go_package.specs.Packages.{imports_faults}
@@ -26,7 +26,7 @@ returns-in_err-check_import c =
     let doubled = c.is_some-doubled.ensures ∙ ap is_some c.in_ok-insert.ensures.first ∙ is_some_position (bytes_eq x.import.name.now) c.loop-spec.before in
     let refers = c.is_some-refers.ensures ∙ ap is_some c.get.ensures ∙ is_referred x.import.name.now c.args.used.now file c.requires in
     let fails = c.in_err-check_import.ensures file c.loop-spec.before doubled refers in
-    rw (p.1, p.2) (imports_here (facts_of c.args.facts.now) file c.loop-spec.before (map importable_of c.args.packages.now.all.now) specs c.loop-spec.spec-index c.spec-item.result
+    rw (p.1, p.2) (imports_here (facts_of c.args.facts.now) file c.loop-spec.before (map importable_view c.args.packages.now.all.now) specs c.loop-spec.spec-index c.spec-item.result
     (imported_of x) c.in_err-check_import.field-0.0 _ within item found invariant fails)
 
 pub loop-spec-preserved : goal.loop-spec-preserved
@@ -37,7 +37,7 @@ loop-spec-preserved c =
     let found = sym c.declared_by.ensures ∙ ap (option_map imported_of) c.in-Some.is in
     let t = facts_of c.args.facts.now in
     let file = file_of c.args.file.now in
-    let ps = map importable_of c.args.packages.now.all.now in
+    let ps = map importable_view c.args.packages.now.all.now in
     let before = c.loop-spec.before in
     let doubled = c.is_some-doubled.ensures ∙ ap is_some c.in_ok-insert.ensures.first ∙ is_some_position (bytes_eq x.import.name.now) before in
     let refers = c.is_some-refers.ensures ∙ ap is_some c.get.ensures ∙ is_referred x.import.name.now c.args.used.now file c.requires in

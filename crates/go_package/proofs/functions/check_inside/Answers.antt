@@ -1,11 +1,11 @@
 use Rattle.std.proofs.Common.{refl, subst}
 use Rattle.go_ast.specs.Views.{function_of}
-use Rattle.go_typed.specs.Views.{function_of as typed_function}
+use Rattle.go_typed.specs.Views.{as_function as typed_function}
 use Rattle.go_stmt.specs.Scopes.{Context}
 use Rattle.go_stmt.specs.Functions.{function_at}
-use Rattle.go_stmt.specs.Seen.{Answered}
+use Rattle.go_stmt.specs.Views.{Answered}
 use Rattle.go_objects.specs.Packages.{package_of}
-use Rattle.go_package.specs.Seen.{facts_of}
+use Rattle.go_package.specs.Views.{facts_of}
 use Rattle.go_package.proofs.Contexts.{context_same}
 use Rattle.go_package.proofs.functions.check_inside.Goals as goal
 

@@ -3,7 +3,7 @@ use Rattle.std.specs.Prelude.{bytes_eq, option_copied, unwrap_or}
 use Rattle.std.specs.Map.{lookup}
 use Rattle.std.specs.Option.{option_map}
 use Rattle.go_expr.specs.Known.{Declared}
-use Rattle.go_expr.specs.Seen.{declared_of, names_of}
+use Rattle.go_expr.specs.Views.{declared_of, names_of}
 use Rattle.go_expr.proofs.Lookups.{found_seen}
 use Rattle.go_package.proofs.names.declared_at.Goals as goal
 

@@ -1,11 +1,11 @@
 use Rattle.std.proofs.Common.{◌≡◌, ◌++◌, map, string_bytes}
 use Rattle.std.specs.List.{filter_map}
 use Rattle.std.specs.Option.{option_map}
-use Rattle.go_typed.specs.Views.{name_of}
-use Rattle.go_expr.specs.Seen.{declared_of, names_of}
+use Rattle.go_typed.specs.Views.{as_name}
+use Rattle.go_expr.specs.Views.{declared_of, names_of}
 use Rattle.go_package.specs.Typed.{type_in, types_in}
 use Rattle.go_package.proofs.names.types_in.Given as goal
 
 abbrev pub invariant-loop-name : goal.invariant-loop-name
 invariant-loop-name l =
-    map name_of l.found.items ++ filter_map type_in (map (λ e. (string_bytes e.0, option_map declared_of e.1)) l.name-iterator) ≡ types_in (names_of l.known)
+    map as_name l.found.items ++ filter_map type_in (map (λ e. (string_bytes e.0, option_map declared_of e.1)) l.name-iterator) ≡ types_in (names_of l.known)

@@ -2,7 +2,7 @@ use Rattle.std.proofs.Common.{◌≡◌, drop, map}
 use Rattle.std.specs.List.{flat_map}
 use Rattle.go_ast.specs.Views.{type_spec_of}
 use Rattle.go_package.specs.Faults.{type_spec_faults}
-use Rattle.go_package.specs.Seen.{facts_of}
+use Rattle.go_package.specs.Views.{facts_of}
 use Rattle.go_package.proofs.types.check_types.Given as goal
 
 abbrev pub invariant-loop-spec : goal.invariant-loop-spec

@@ -6,7 +6,7 @@ use Rattle.go_ast.specs.declared.file.TopLevel.{TopLevel}
 use Rattle.go_typed.specs.Views.{uses_of}
 use Rattle.go_scope.specs.Names.{Used, used}
 use Rattle.go_scope.specs.declared.names.UsedName.{UsedName}
-use Rattle.go_package.specs.Seen.{facts_of}
+use Rattle.go_package.specs.Views.{facts_of}
 use Rattle.go_package.specs.Typed.{top_uses}
 use Rattle.go_package.proofs.Dotted.{dotted, dotted_top, dotted_tops}
 use Rattle.go_package.proofs.Walks.{more}

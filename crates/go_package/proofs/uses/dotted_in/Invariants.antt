@@ -2,7 +2,7 @@ use Rattle.std.proofs.Common.{◌≡◌, ◌++◌, drop, map}
 use Rattle.std.specs.List.{flat_map}
 use Rattle.go_ast.specs.Views.{top_of}
 use Rattle.go_typed.specs.Views.{uses_of}
-use Rattle.go_package.specs.Seen.{facts_of}
+use Rattle.go_package.specs.Views.{facts_of}
 use Rattle.go_package.specs.Typed.{top_uses}
 use Rattle.go_package.proofs.Dotted.{dotted_top}
 use Rattle.go_package.proofs.uses.dotted_in.Given as goal

@@ -3,7 +3,7 @@ use Rattle.std.proofs.lemmas.Result.{err_from_is_err_and}
 use Rattle.go_ast.specs.Views.{var_of}
 use Rattle.go_typed.specs.Views.{initialization_of}
 use Rattle.go_package.specs.Faults.{var_spec_faults}
-use Rattle.go_package.specs.Seen.{facts_of, texts_of}
+use Rattle.go_package.specs.Views.{facts_of, texts_in}
 use Rattle.go_package.specs.Typed.{spec_initializations}
 use Rattle.go_package.proofs.Walks.{here, later, more}
 use Rattle.go_package.proofs.variables.check_variables.Goals as goal
@@ -19,7 +19,7 @@ returns-in_err-check_var_spec-clause-faults c =
 pub loop-spec-preserved : goal.loop-spec-preserved
 loop-spec-preserved c =
     let t = facts_of c.args.facts.now in
-    let names = texts_of c.args.names.now in
+    let names = texts_in c.args.names.now in
     let file = c.args.file in
     let specs = c.args.specs.now in
     let i = c.loop-spec.spec-index in

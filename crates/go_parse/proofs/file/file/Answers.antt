@@ -1,6 +1,6 @@
 use Rattle.std.proofs.Common.{map, sym, ◌∙◌}
 use Rattle.go_ast.specs.Views.{import_of, top_of}
-use Rattle.go_ast.specs.Machine.{file_of, start}
+use Rattle.go_ast.specs.Machine.{to_file, start}
 use Rattle.go_pexpr.specs.Reads.{left}
 use Rattle.go_parse.proofs.Files.{ends, refused_end, then_stops}
 use Rattle.go_pstmt.proofs.Reading.{went}
@@ -30,7 +30,7 @@ pub returns-then-is_some-clause-err : goal.returns-then-is_some-clause-err
 returns-then-is_some-clause-err c =
     let p = c.in_ok-package.package in
     let is = map import_of c.in_ok-imports.imports.items in
-    refused_end start c.args.parser.now c.declarations.new.parser c.wrong.result (file_of p is (map top_of c.in_ok-declarations.declarations.items)) c.kind.result (
+    refused_end start c.args.parser.now c.declarations.new.parser c.wrong.result (to_file p is (map top_of c.in_ok-declarations.declarations.items)) c.kind.result (
     went (c.in_ok-expect.ensures.reads _) ∙ went (c.in_ok-package.ensures.reads _) ∙ went (c.in_ok-expect-2.ensures.reads _) ∙ went (c.in_ok-imports.ensures.reads p)
     ∙ went (c.in_ok-declarations.ensures.reads p is)) c.kind.ensures (sym c.is_some.ensures ∙ c.if-is_some.true) c.wrong.ensures
 
@@ -40,4 +40,4 @@ returns-clause-ok c =
     let is = map import_of c.in_ok-imports.imports.items in
     went (c.in_ok-expect.ensures.reads _) ∙ went (c.in_ok-package.ensures.reads _) ∙ went (c.in_ok-expect-2.ensures.reads _) ∙ went (c.in_ok-imports.ensures.reads p)
     ∙ went (c.in_ok-declarations.ensures.reads p is)
-    ∙ ends c.declarations.new.parser.edition (file_of p is (map top_of c.in_ok-declarations.declarations.items)) c.kind.result (left c.declarations.new.parser) c.kind.ensures (sym c.is_some.ensures ∙ c.if-is_some.false)
+    ∙ ends c.declarations.new.parser.edition (to_file p is (map top_of c.in_ok-declarations.declarations.items)) c.kind.result (left c.declarations.new.parser) c.kind.ensures (sym c.is_some.ensures ∙ c.if-is_some.false)

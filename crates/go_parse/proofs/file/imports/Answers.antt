@@ -1,6 +1,6 @@
 use Rattle.std.proofs.Common.{arith, List, [], ◌∷◌, ◌++◌, map, ◌∙◌}
 use Rattle.go_ast.specs.Trees as trees
-use Rattle.go_ast.specs.Machine.{State, import_end}
+use Rattle.go_ast.specs.Machine.{Reader, import_end}
 use Rattle.go_ast.specs.Views.{import_of}
 use Rattle.go_pexpr.specs.Reads.{left}
 use Rattle.go_parse.proofs.Files.{joined, behind_import}
@@ -9,7 +9,7 @@ use Rattle.go_pstmt.proofs.Reading.{went, took}
 use Rattle.go_parse.proofs.file.imports.Goals as goal
 
 -- what is due behind an import
-abbrev behind : trees.Name → List (List trees.ImportSpec) → List trees.ImportSpec → State
+abbrev behind : trees.Name → List (List trees.ImportSpec) → List trees.ImportSpec → Reader
 behind p iss is = import_end p (iss ++ is ∷ [])
 
 pub returns-in_err-accept-clause-reads : goal.returns-in_err-accept-clause-reads

@@ -1,7 +1,7 @@
 use Rattle.std.proofs.Common.{List, map, ◌∙◌, ap}
 use Rattle.go_text.specs.declared.place.Place.{Place}
 use Rattle.go_ast.specs.Trees as trees
-use Rattle.go_ast.specs.Machine.{State, block_at, results_at, run}
+use Rattle.go_ast.specs.Machine.{Reader, read_block, read_results, run_parser}
 use Rattle.go_ast.specs.Views.{parameter_of, type_of, block_of}
 use Rattle.go_pexpr.specs.Reads.{left}
 use Rattle.go_pexpr.proofs.Reading.{then_fails}
@@ -9,14 +9,14 @@ use Rattle.go_pstmt.proofs.Reading.{fails, went}
 use Rattle.go_parse.proofs.function.function.Goals as goal
 
 -- what is due behind the parts of a function
-abbrev behind_body : (trees.Function → State) → Place → trees.Name → List trees.Parameter → List trees.TypeExpr → trees.Block → State
+abbrev behind_body : (trees.FunctionDecl → Reader) → Place → trees.Name → List trees.Parameter → List trees.TypeExpr → trees.Block → Reader
 behind_body next p n ps rs b = next (record { place = p; name = n; parameters = ps; results = rs; body = b })
 
-abbrev behind_results : (trees.Function → State) → Place → trees.Name → List trees.Parameter → List trees.TypeExpr → State
-behind_results next p n ps rs = block_at 1 (behind_body next p n ps rs)
+abbrev behind_results : (trees.FunctionDecl → Reader) → Place → trees.Name → List trees.Parameter → List trees.TypeExpr → Reader
+behind_results next p n ps rs = read_block 1 (behind_body next p n ps rs)
 
-abbrev behind_parameters : (trees.Function → State) → Place → trees.Name → List trees.Parameter → State
-behind_parameters next p n ps = results_at (behind_results next p n ps)
+abbrev behind_parameters : (trees.FunctionDecl → Reader) → Place → trees.Name → List trees.Parameter → Reader
+behind_parameters next p n ps = read_results (behind_results next p n ps)
 
 pub returns-in_err-name-clause-reads : goal.returns-in_err-name-clause-reads
 returns-in_err-name-clause-reads c = λ next t e. fails (c.in_err-name.ensures.reads _) c.from_residual.ensures.1
@@ -61,5 +61,5 @@ returns-clause-reads c = λ next t e.
           ∙ went (c.in_ok-parameters.ensures.reads (behind_parameters next t.place n))
           ∙ went (c.in_ok-results.ensures.reads (behind_results next t.place n ps))
           ∙ went (c.in_ok-body.ensures.reads (behind_body next t.place n ps rs))
-          ∙ ap (λ p. run c.block.new.parser.edition 250 (behind_body next p n ps rs b) (left c.block.new.parser)) e;
+          ∙ ap (λ p. run_parser c.block.new.parser.edition 250 (behind_body next p n ps rs b) (left c.block.new.parser)) e;
     }

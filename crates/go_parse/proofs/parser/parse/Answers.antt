@@ -3,7 +3,7 @@ use Rattle.std.specs.List.{All}
 use Rattle.go_text.specs.Faults.{fault_number}
 use Rattle.go_scan.specs.declared.token.Token.{Token}
 use Rattle.go_scan.proofs.Spelled.{tokens_stand}
-use Rattle.go_ast.specs.Machine.{start, Refused, run}
+use Rattle.go_ast.specs.Machine.{start, Refused, run_parser}
 use Rattle.go_ast.specs.Tokens.{lexemes, LiesIn}
 use Rattle.go_ast.specs.Views.{file_of}
 use Rattle.go_pexpr.specs.Reads.{left, number}
@@ -36,7 +36,7 @@ returns-in-Ok-file-clause-ok c =
     let ts = c.in-Ok.tokens.items in
     let seen : c.as_bytes-text.result.now ≡ text = c.as_bytes-text.ensures.value ∙ c.as_str.ensures.value ∙ c.text.ensures in
     let all : lexemes text ts ≡ lexemes c.as_bytes-text.result.now c.deref.result.now = same_tokens seen c.deref.ensures.value in
-    is_file c.args.edition text ts (file_of c.in-Ok-file.file) c.in-Ok.ensures.ok (ap (run c.args.edition 250 start) all ∙ c.in-Ok-file.ensures.ok)
+    is_file c.args.edition text ts (file_of c.in-Ok-file.file) c.in-Ok.ensures.ok (ap (run_parser c.args.edition 250 start) all ∙ c.in-Ok-file.ensures.ok)
 
 pub returns-clause-err : goal.returns-clause-err
 returns-clause-err c = λ kind place e.
@@ -46,10 +46,10 @@ returns-clause-err c = λ kind place e.
     let fault = c.in-Err-Wrong.fault in
     let seen : c.as_bytes-text.result.now ≡ text = c.as_bytes-text.ensures.value ∙ c.as_str.ensures.value ∙ c.text.ensures in
     let all : lexemes text ts ≡ lexemes c.as_bytes-text.result.now c.deref.result.now = same_tokens seen c.deref.ensures.value in
-    let refused : run c.args.edition 250 start (lexemes c.as_bytes-text.result.now c.deref.result.now) ≡ Refused (number fault) bad =
+    let refused : run_parser c.args.edition 250 start (lexemes c.as_bytes-text.result.now c.deref.result.now) ≡ Refused (number fault) bad =
     refused_by _ c.file.new.parser c.in-Err-Wrong.field-0-is c.in-Err-Wrong.ensures.err in
     let kind_is : c.token_kind.result ≡ kind = cc (e) in
     let place_is : c.place_before-place.result ≡ place = cc (e) in
-    stops_being c.args.edition text ts (number fault) bad kind place c.in-Ok.ensures.ok (ap (run c.args.edition 250 start) all ∙ refused)
+    stops_being c.args.edition text ts (number fault) bad kind place c.in-Ok.ensures.ok (ap (run_parser c.args.edition 250 start) all ∙ refused)
     (ap fault_number (sym kind_is) ∙ c.token_kind.ensures ∙ ap number c.in-Err-Wrong.fault-is)
     (sym place_is ∙ c.place_before-place.ensures c.file.new.parser.text.now ∙ ap (λ t. place_before t bad) seen)

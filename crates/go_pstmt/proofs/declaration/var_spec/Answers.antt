@@ -1,5 +1,5 @@
 use Rattle.std.proofs.Common.{Some, ◌∙◌}
-use Rattle.go_ast.specs.Trees.{Exprs}
+use Rattle.go_ast.specs.Trees.{ExpressionList}
 use Rattle.go_ast.specs.Views.{type_of}
 use Rattle.go_pexpr.proofs.Reading.{then_fails}
 use Rattle.go_pstmt.proofs.Reading.{then_reads, went, took, missed}
@@ -15,10 +15,10 @@ returns-in_default-clause-reads c = λ next.
 
 pub returns-in_err-values-clause-reads : goal.returns-in_err-values-clause-reads
 returns-in_err-values-clause-reads c = λ next.
-    let made = λ (es : Exprs). next (record { names = c.in_ok-names.names.items; type = Some (type_of c.in-Some.type_expr); values = es }) in
+    let made = λ (es : ExpressionList). next (record { names = c.in_ok-names.names.items; type = Some (type_of c.in-Some.type_expr); values = es }) in
     then_fails (went (c.in_ok-names.ensures.reads _) ∙ took (c.in_ok-type_expr.ensures.reads _ _) c.in-Some.is) (c.in_err-values.ensures.reads made) c.from_residual-in_err-values.ensures.1
 
 pub returns-clause-reads : goal.returns-clause-reads
 returns-clause-reads c = λ next.
-    let made = λ (es : Exprs). next (record { names = c.in_ok-names.names.items; type = Some (type_of c.in-Some.type_expr); values = es }) in
+    let made = λ (es : ExpressionList). next (record { names = c.in_ok-names.names.items; type = Some (type_of c.in-Some.type_expr); values = es }) in
     record { by = went (c.in_ok-names.ensures.reads _) ∙ took (c.in_ok-type_expr.ensures.reads _ _) c.in-Some.is ∙ went (c.in_ok-values.ensures.reads made) }

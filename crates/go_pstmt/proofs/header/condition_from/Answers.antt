@@ -2,7 +2,7 @@ use Rattle.std.proofs.Common.{◌+◌, true, [], ◌∷◌, Some, None, ap, ◌�
 use Rattle.go_ast.specs.Trees as trees
 use Rattle.go_ast.specs.Expected.{another, an_operand}
 use Rattle.go_ast.specs.Grammar.{semicolon}
-use Rattle.go_ast.specs.Machine.{State, expr, token, lefts, in_header, run, block_at, else_part, if_condition}
+use Rattle.go_ast.specs.Machine.{Reader, expr, token, lefts, in_header, run_parser, read_block, else_part, if_condition}
 use Rattle.go_ast.specs.Views.{simple_of}
 use Rattle.go_pexpr.specs.Reads.{left}
 use Rattle.go_pexpr.proofs.Reading.{then_fails, then_reads}
@@ -15,18 +15,18 @@ pub returns-in-Some-clause-reads : goal.returns-in-Some-clause-reads
 returns-in-Some-clause-reads c = λ t next.
     let l = c.args.level in
     let ns = λ (s : trees.Simple). token semicolon 0 another (λ _. if_condition l t.place next (Some s)) in
-    let al = λ (e : trees.Expr). block_at (l + 1) (λ b. else_part l t.place None e b next) in
-    let ra = λ (n : trees.Name) (e : trees.Expr). if_condition l t.place next None in
-    let head : State = expr 5 true (l + 1) an_operand (λ e. lefts in_header true (l + 1) (e ∷ []) ns al ra) in
+    let al = λ (e : trees.Expression). read_block (l + 1) (λ b. else_part l t.place None e b next) in
+    let ra = λ (n : trees.Name) (e : trees.Expression). if_condition l t.place next None in
+    let head : Reader = expr 5 true (l + 1) an_operand (λ e. lefts in_header true (l + 1) (e ∷ []) ns al ra) in
     then_reads c.condition_behind.result (took (c.in_ok-accept.ensures.reads (λ _. if_condition l t.place next None) head) c.in-Some.is) (c.condition_behind.ensures.reads t.place next)
 
 pub returns-in_err-init-clause-reads : goal.returns-in_err-init-clause-reads
 returns-in_err-init-clause-reads c = λ t next.
     let l = c.args.level in
     let ns = λ (s : trees.Simple). token semicolon 0 another (λ _. if_condition l t.place next (Some s)) in
-    let al = λ (e : trees.Expr). block_at (l + 1) (λ b. else_part l t.place None e b next) in
-    let ra = λ (n : trees.Name) (e : trees.Expr). if_condition l t.place next None in
-    let head : State = expr 5 true (l + 1) an_operand (λ e. lefts in_header true (l + 1) (e ∷ []) ns al ra) in
+    let al = λ (e : trees.Expression). read_block (l + 1) (λ b. else_part l t.place None e b next) in
+    let ra = λ (n : trees.Name) (e : trees.Expression). if_condition l t.place next None in
+    let head : Reader = expr 5 true (l + 1) an_operand (λ e. lefts in_header true (l + 1) (e ∷ []) ns al ra) in
     let two = missed (c.in_ok-accept.ensures.reads (λ _. if_condition l t.place next None) head) c.in_default.is in
     then_fails two (c.in_err-init.ensures.reads ns al ra) c.from_residual-in_err-init.ensures.1
 
@@ -34,42 +34,42 @@ pub returns-in_err-expect-in-Simple-clause-reads : goal.returns-in_err-expect-in
 returns-in_err-expect-in-Simple-clause-reads c = λ t next.
     let l = c.args.level in
     let ns = λ (s : trees.Simple). token semicolon 0 another (λ _. if_condition l t.place next (Some s)) in
-    let al = λ (e : trees.Expr). block_at (l + 1) (λ b. else_part l t.place None e b next) in
-    let ra = λ (n : trees.Name) (e : trees.Expr). if_condition l t.place next None in
-    let head : State = expr 5 true (l + 1) an_operand (λ e. lefts in_header true (l + 1) (e ∷ []) ns al ra) in
+    let al = λ (e : trees.Expression). read_block (l + 1) (λ b. else_part l t.place None e b next) in
+    let ra = λ (n : trees.Name) (e : trees.Expression). if_condition l t.place next None in
+    let head : Reader = expr 5 true (l + 1) an_operand (λ e. lefts in_header true (l + 1) (e ∷ []) ns al ra) in
     let two = missed (c.in_ok-accept.ensures.reads (λ _. if_condition l t.place next None) head) c.in_default.is in
-    let here = two ∙ (c.in_ok-init.ensures.reads ns al ra).by ∙ ap (λ (x : Header). run c.header_from.new.parser.edition 250 (by_header ns al ra x) (left c.header_from.new.parser)) c.in-Simple.is in
+    let here = two ∙ (c.in_ok-init.ensures.reads ns al ra).by ∙ ap (λ (x : Header). run_parser c.header_from.new.parser.edition 250 (by_header ns al ra x) (left c.header_from.new.parser)) c.in-Simple.is in
     then_fails here (c.in_err-expect-in-Simple.ensures.reads (λ _. if_condition l t.place next (Some (simple_of c.in-Simple.init.value)))) c.from_residual-in_err-expect-in-Simple.ensures.1
 
 pub returns-in_ok-expect-in-Simple-clause-reads : goal.returns-in_ok-expect-in-Simple-clause-reads
 returns-in_ok-expect-in-Simple-clause-reads c = λ t next.
     let l = c.args.level in
     let ns = λ (s : trees.Simple). token semicolon 0 another (λ _. if_condition l t.place next (Some s)) in
-    let al = λ (e : trees.Expr). block_at (l + 1) (λ b. else_part l t.place None e b next) in
-    let ra = λ (n : trees.Name) (e : trees.Expr). if_condition l t.place next None in
-    let head : State = expr 5 true (l + 1) an_operand (λ e. lefts in_header true (l + 1) (e ∷ []) ns al ra) in
+    let al = λ (e : trees.Expression). read_block (l + 1) (λ b. else_part l t.place None e b next) in
+    let ra = λ (n : trees.Name) (e : trees.Expression). if_condition l t.place next None in
+    let head : Reader = expr 5 true (l + 1) an_operand (λ e. lefts in_header true (l + 1) (e ∷ []) ns al ra) in
     let two = missed (c.in_ok-accept.ensures.reads (λ _. if_condition l t.place next None) head) c.in_default.is in
-    let here = two ∙ (c.in_ok-init.ensures.reads ns al ra).by ∙ ap (λ (x : Header). run c.header_from.new.parser.edition 250 (by_header ns al ra x) (left c.header_from.new.parser)) c.in-Simple.is in
+    let here = two ∙ (c.in_ok-init.ensures.reads ns al ra).by ∙ ap (λ (x : Header). run_parser c.header_from.new.parser.edition 250 (by_header ns al ra x) (left c.header_from.new.parser)) c.in-Simple.is in
     then_reads c.condition_behind-in-Simple.result (here ∙ (c.in_ok-expect-in-Simple.ensures.reads (λ _. if_condition l t.place next (Some (simple_of c.in-Simple.init.value)))).by) (c.condition_behind-in-Simple.ensures.reads t.place next)
 
 pub returns-in-Alone-clause-reads : goal.returns-in-Alone-clause-reads
 returns-in-Alone-clause-reads c = λ t next.
     let l = c.args.level in
     let ns = λ (s : trees.Simple). token semicolon 0 another (λ _. if_condition l t.place next (Some s)) in
-    let al = λ (e : trees.Expr). block_at (l + 1) (λ b. else_part l t.place None e b next) in
-    let ra = λ (n : trees.Name) (e : trees.Expr). if_condition l t.place next None in
-    let head : State = expr 5 true (l + 1) an_operand (λ e. lefts in_header true (l + 1) (e ∷ []) ns al ra) in
+    let al = λ (e : trees.Expression). read_block (l + 1) (λ b. else_part l t.place None e b next) in
+    let ra = λ (n : trees.Name) (e : trees.Expression). if_condition l t.place next None in
+    let head : Reader = expr 5 true (l + 1) an_operand (λ e. lefts in_header true (l + 1) (e ∷ []) ns al ra) in
     let two = missed (c.in_ok-accept.ensures.reads (λ _. if_condition l t.place next None) head) c.in_default.is in
-    let here = two ∙ (c.in_ok-init.ensures.reads ns al ra).by ∙ ap (λ (x : Header). run c.header_from.new.parser.edition 250 (by_header ns al ra x) (left c.header_from.new.parser)) c.in-Alone.is in
+    let here = two ∙ (c.in_ok-init.ensures.reads ns al ra).by ∙ ap (λ (x : Header). run_parser c.header_from.new.parser.edition 250 (by_header ns al ra x) (left c.header_from.new.parser)) c.in-Alone.is in
     record { by = here }
 
 pub returns-in-Range-clause-reads : goal.returns-in-Range-clause-reads
 returns-in-Range-clause-reads c = λ t next.
     let l = c.args.level in
     let ns = λ (s : trees.Simple). token semicolon 0 another (λ _. if_condition l t.place next (Some s)) in
-    let al = λ (e : trees.Expr). block_at (l + 1) (λ b. else_part l t.place None e b next) in
-    let ra = λ (n : trees.Name) (e : trees.Expr). if_condition l t.place next None in
-    let head : State = expr 5 true (l + 1) an_operand (λ e. lefts in_header true (l + 1) (e ∷ []) ns al ra) in
+    let al = λ (e : trees.Expression). read_block (l + 1) (λ b. else_part l t.place None e b next) in
+    let ra = λ (n : trees.Name) (e : trees.Expression). if_condition l t.place next None in
+    let head : Reader = expr 5 true (l + 1) an_operand (λ e. lefts in_header true (l + 1) (e ∷ []) ns al ra) in
     let two = missed (c.in_ok-accept.ensures.reads (λ _. if_condition l t.place next None) head) c.in_default.is in
-    let here = two ∙ (c.in_ok-init.ensures.reads ns al ra).by ∙ ap (λ (x : Header). run c.header_from.new.parser.edition 250 (by_header ns al ra x) (left c.header_from.new.parser)) c.in-Range.is in
+    let here = two ∙ (c.in_ok-init.ensures.reads ns al ra).by ∙ ap (λ (x : Header). run_parser c.header_from.new.parser.edition 250 (by_header ns al ra x) (left c.header_from.new.parser)) c.in-Range.is in
     then_reads c.condition_behind-in-Range.result here (c.condition_behind-in-Range.ensures.reads t.place next)

@@ -1,6 +1,6 @@
 use Rattle.std.proofs.Common.{arith, List, [], ◌∷◌, ◌++◌, map, sym, ap, ◌∙◌}
 use Rattle.go_ast.specs.Grammar.{Lexeme, closing}
-use Rattle.go_ast.specs.Machine.{State, list_start, run}
+use Rattle.go_ast.specs.Machine.{Reader, list_start, run_parser}
 use Rattle.go_pexpr.specs.Reads.{First, left}
 use Rattle.go_pexpr.proofs.Reading.{then_fails}
 use Rattle.go_pexpr.proofs.Steps.{Kind}
@@ -10,7 +10,7 @@ use Rattle.go_pstmt.proofs.Reading.{went}
 use Rattle.go_pstmt.proofs.Steps.{false_true}
 use Rattle.go_pstmt.proofs.list.list.Goals as goal
 
-abbrev last : {A : Type 0} → (List A → State) → List A → Lexeme → State
+abbrev last : {A : Type 0} → (List A → Reader) → List A → Lexeme → Reader
 last next ns t = next ns
 
 pub returns-in_err-item-clause-reads : goal.returns-in_err-item-clause-reads
@@ -31,7 +31,7 @@ nodes-preserved-in_ok-expect g c =
           c.nodes.invariant.reads next ∙ went (c.in_ok-item.ensures.reads front next)
           ∙ separator_there c.item.new.parser.edition k (g.met.L.Items.closes items) (front ++ n ∷ []) next _ (g.L.Items.due items) _ _ c.behind.ensures c.separator.ensures other
           ∙ went (c.in_ok-expect.ensures.reads _)
-          ∙ ap (λ ns. run c.expect.new.self.edition 250 (list_start k ns next) (left c.expect.new.self)) (sym (pushed seen c.nodes.nodes.items _ c.in_ok-item.field-0 c.in_ok-push.ensures.items));
+          ∙ ap (λ ns. run_parser c.expect.new.self.edition 250 (list_start k ns next) (left c.expect.new.self)) (sym (pushed seen c.nodes.nodes.items _ c.in_ok-item.field-0 c.in_ok-push.ensures.items));
       shorter = omega (arith, c.nodes.invariant.shorter, c.in_ok-item.ensures.shorter, c.in_ok-expect.ensures.shorter);
     }
 
@@ -59,7 +59,7 @@ nodes-preserved g c =
           let is : First (Kind closing) (left c.item.new.parser) = c.is_next-in-nodes.ensures.0 c.if-not-is_next.false in
           c.nodes.invariant.reads next ∙ went (c.in_ok-item.ensures.reads front next)
           ∙ ends_there c.item.new.parser.edition k (g.met.L.Items.closes items) (front ++ n ∷ []) next _ (g.L.Items.due items) is
-          ∙ ap (λ ns. run c.item.new.parser.edition 250 (list_start k ns next) (left c.item.new.parser)) (sym (pushed seen c.nodes.nodes.items _ c.in_ok-item.field-0 c.in_ok-push.ensures.items));
+          ∙ ap (λ ns. run_parser c.item.new.parser.edition 250 (list_start k ns next) (left c.item.new.parser)) (sym (pushed seen c.nodes.nodes.items _ c.in_ok-item.field-0 c.in_ok-push.ensures.items));
       shorter = omega (arith, c.nodes.invariant.shorter, c.in_ok-item.ensures.shorter);
     }
 
@@ -79,5 +79,5 @@ returns-clause-reads g c = λ next.
     let is : First (Kind closing) (left c.nodes.parser) = c.is_next.ensures.0 c.nodes-test.false in
     record {
       by = c.nodes.invariant.reads (last next) ∙ closing_due _ k (g.met.L.Items.closes items) front (last next) _ is ∙ went (c.in_ok-expect-2.ensures.reads (last next front))
-          ∙ ap (λ ns. run c.expect-2.new.self.edition 250 (next (map (g.L.Items.seen items) ns)) (left c.expect-2.new.self)) (sym c.shrink_to_fit.ensures.items);
+          ∙ ap (λ ns. run_parser c.expect-2.new.self.edition 250 (next (map (g.L.Items.seen items) ns)) (left c.expect-2.new.self)) (sym c.shrink_to_fit.ensures.items);
     }

@@ -1,7 +1,7 @@
 use Rattle.std.proofs.Common.{true, refl, sym, ap, ◌∙◌}
 use Rattle.go_ast.specs.Trees as trees
 use Rattle.go_ast.specs.Expected.{Expected}
-use Rattle.go_ast.specs.Machine.{run, Refused}
+use Rattle.go_ast.specs.Machine.{run_parser, Refused}
 use Rattle.go_ast.specs.Views.{expr_of}
 use Rattle.go_ast.specs.declared.expression.Expr.{Expr}
 use Rattle.go_pexpr.specs.Reads.{left, fault_of, expected_of}
@@ -16,7 +16,7 @@ returns-then-opens_block-clause-reads c = λ before next alone range does.
     let ts = left c.args.parser.now in
     record {
       by = by_block c.args.parser.now.edition (position_of c.args.position) true 0 (expr_of c.args.side) next alone before ts does f.0 f.1
-          ∙ ap (λ (x : Expr). run c.args.parser.now.edition 250 (alone (expr_of x)) ts) (sym c.in_ok-side.ensures.ok);
+          ∙ ap (λ (x : Expr). run_parser c.args.parser.now.edition 250 (alone (expr_of x)) ts) (sym c.in_ok-side.ensures.ok);
     }
 
 pub returns-then-is_call-clause-reads : goal.returns-then-is_call-clause-reads

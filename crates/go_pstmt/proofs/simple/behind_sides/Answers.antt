@@ -3,7 +3,7 @@ use Rattle.go_ast.specs.declared.expression.Expr.{Expr}
 use Rattle.go_ast.specs.Trees as trees
 use Rattle.go_ast.specs.Expected.{another, a_value}
 use Rattle.go_ast.specs.Grammar.{assign}
-use Rattle.go_ast.specs.Machine.{expr, more_exprs, token, lefts, names_if, run}
+use Rattle.go_ast.specs.Machine.{expr, more_exprs, token, lefts, names_if, run_parser}
 use Rattle.go_ast.specs.Views.{expr_of, exprs_in}
 use Rattle.go_pexpr.specs.Reads.{left, fault_of}
 use Rattle.go_pexpr.proofs.Reading.{then_reads, then_refuses}
@@ -15,10 +15,10 @@ pub returns-then-is_next-clause-reads : goal.returns-then-is_next-clause-reads
 returns-then-is_next-clause-reads c = λ next alone range.
     let m = position_of c.args.position in
     let h = is_bare c.args.position in
-    let behind = λ (es : List trees.Expr). next (trees.assignment (exprs_in c.args.sides.items) (trees.pack es)) in
+    let behind = λ (es : List trees.Expression). next (trees.assignment (exprs_in c.args.sides.items) (trees.pack es)) in
     then_reads c.assignment.result
     (lefts_assign c.args.parser.now.edition m h c.args.level next alone range (map expr_of c.args.sides.items) (left c.args.parser.now) (some_exprs c.args.sides.items c.requires.some) (c.if-is_next.ensures.0 refl)
-    ∙ ap (λ b. run c.args.parser.now.edition 250 (token assign 0 another (λ _. expr 5 b c.args.level a_value (λ e. more_exprs b c.args.level (e ∷ []) behind))) (left c.args.parser.now)) (sym c.is_bare.ensures))
+    ∙ ap (λ b. run_parser c.args.parser.now.edition 250 (token assign 0 another (λ _. expr 5 b c.args.level a_value (λ e. more_exprs b c.args.level (e ∷ []) behind))) (left c.args.parser.now)) (sym c.is_bare.ensures))
     (c.assignment.ensures.reads next alone range)
 
 pub returns-in-Some-clause-reads : goal.returns-in-Some-clause-reads

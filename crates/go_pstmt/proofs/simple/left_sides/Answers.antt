@@ -1,6 +1,6 @@
 use Rattle.std.proofs.Common.{◌≤◌, List, [], ◌∷◌, ◌++◌, length, map, sym, ap, ◌∙◌, subst, arith}
 use Rattle.go_ast.specs.Expected.{an_operand}
-use Rattle.go_ast.specs.Machine.{expr, lefts, run}
+use Rattle.go_ast.specs.Machine.{expr, lefts, run_parser}
 use Rattle.go_ast.specs.Views.{expr_of}
 use Rattle.go_ast.specs.declared.expression.Expr.{Expr}
 use Rattle.go_pexpr.specs.Reads.{left}
@@ -28,7 +28,7 @@ returns-in_err-expr_from-2-clause-reads c = λ next alone range.
     (c.sides.invariant.reads next alone range
     ∙ lefts_comma c.sides.parser.edition m h c.args.level next alone range front (left c.sides.parser) (some_exprs c.sides.sides.items c.sides.invariant.some) (c.is_next.ensures.0 c.sides-test.true)
     ∙ (c.in_ok-expect.ensures.reads (λ _. expr 5 h c.args.level an_operand (λ e. lefts m h c.args.level (front ++ e ∷ []) next alone range))).by
-    ∙ ap (λ b. run c.expect.new.self.edition 250 (expr 5 b c.args.level an_operand (λ e. lefts m h c.args.level (front ++ e ∷ []) next alone range)) (left c.expect.new.self)) (sym c.is_bare-bare.ensures))
+    ∙ ap (λ b. run_parser c.expect.new.self.edition 250 (expr 5 b c.args.level an_operand (λ e. lefts m h c.args.level (front ++ e ∷ []) next alone range)) (left c.expect.new.self)) (sym c.is_bare-bare.ensures))
     (c.in_err-expr_from-2.ensures.reads (λ e. lefts m h c.args.level (front ++ e ∷ []) next alone range)) c.from_residual-in_err-expr_from-2.ensures.1
 
 pub sides-preserved : goal.sides-preserved
@@ -42,9 +42,9 @@ sides-preserved c =
           c.sides.invariant.reads next alone range
           ∙ lefts_comma c.sides.parser.edition m h c.args.level next alone range front (left c.sides.parser) (some_exprs c.sides.sides.items c.sides.invariant.some) (c.is_next.ensures.0 c.sides-test.true)
           ∙ (c.in_ok-expect.ensures.reads (λ _. expr 5 h c.args.level an_operand (λ e. lefts m h c.args.level (front ++ e ∷ []) next alone range))).by
-          ∙ ap (λ b. run c.expect.new.self.edition 250 (expr 5 b c.args.level an_operand (λ e. lefts m h c.args.level (front ++ e ∷ []) next alone range)) (left c.expect.new.self)) (sym c.is_bare-bare.ensures)
+          ∙ ap (λ b. run_parser c.expect.new.self.edition 250 (expr 5 b c.args.level an_operand (λ e. lefts m h c.args.level (front ++ e ∷ []) next alone range)) (left c.expect.new.self)) (sym c.is_bare-bare.ensures)
           ∙ (c.in_ok-expr_from-2.ensures.reads (λ e. lefts m h c.args.level (front ++ e ∷ []) next alone range)).by
-          ∙ ap (λ es. run c.expr_from-in-sides.new.self.edition 250 (lefts m h c.args.level es next alone range) (left c.expr_from-in-sides.new.self)) (sym all);
+          ∙ ap (λ es. run_parser c.expr_from-in-sides.new.self.edition 250 (lefts m h c.args.level es next alone range) (left c.expr_from-in-sides.new.self)) (sym all);
       some = subst (λ (xs : List Expr). 1 ≤ length xs) (sym c.in_ok-push-2.ensures.items) (some_pushed c.sides.sides.items c.in_ok-expr_from-2.field-0);
       shorter = omega (arith, c.in_ok-expr_from-2.ensures.shorter, c.in_ok-expect.ensures.shorter, c.sides.invariant.shorter);
     }

@@ -1,6 +1,6 @@
 use Rattle.std.proofs.Common.{refl, sym, ap, ◌∙◌}
 use Rattle.go_ast.specs.Trees as trees
-use Rattle.go_ast.specs.Machine.{run}
+use Rattle.go_ast.specs.Machine.{run_parser}
 use Rattle.go_ast.specs.Views.{expr_of, simple_of}
 use Rattle.go_ast.specs.declared.expression.Expr.{Expr}
 use Rattle.go_ast.specs.declared.statement.Simple.{Simple}
@@ -16,27 +16,27 @@ returns-in_err-simple-clause-reads c = λ next.
 
 pub returns-in-Simple-clause-reads : goal.returns-in-Simple-clause-reads
 returns-in-Simple-clause-reads c = λ next.
-    let as_call = λ (a : trees.Expr). next (trees.call_statement a) in
+    let as_call = λ (a : trees.Expression). next (trees.call_statement a) in
     record {
       by = (c.in_ok-simple.ensures.reads next as_call (λ n. as_call)).by
-          ∙ ap (λ (h : Header). run c.header_from.new.parser.edition 250 (by_header next as_call (λ n. as_call) h) (left c.header_from.new.parser)) c.in-Simple.is
-          ∙ ap (λ (x : Simple). run c.header_from.new.parser.edition 250 (next (simple_of x)) (left c.header_from.new.parser)) (sym c.into_inner.ensures);
+          ∙ ap (λ (h : Header). run_parser c.header_from.new.parser.edition 250 (by_header next as_call (λ n. as_call) h) (left c.header_from.new.parser)) c.in-Simple.is
+          ∙ ap (λ (x : Simple). run_parser c.header_from.new.parser.edition 250 (next (simple_of x)) (left c.header_from.new.parser)) (sym c.into_inner.ensures);
     }
 
 pub returns-in-Alone-clause-reads : goal.returns-in-Alone-clause-reads
 returns-in-Alone-clause-reads c = λ next.
-    let as_call = λ (a : trees.Expr). next (trees.call_statement a) in
+    let as_call = λ (a : trees.Expression). next (trees.call_statement a) in
     record {
       by = (c.in_ok-simple.ensures.reads next as_call (λ n. as_call)).by
-          ∙ ap (λ (h : Header). run c.header_from.new.parser.edition 250 (by_header next as_call (λ n. as_call) h) (left c.header_from.new.parser)) c.in-Alone.is
-          ∙ ap (λ (x : Expr). run c.header_from.new.parser.edition 250 (next (trees.call_statement (expr_of x))) (left c.header_from.new.parser)) (sym c.into_inner-in-Alone.ensures);
+          ∙ ap (λ (h : Header). run_parser c.header_from.new.parser.edition 250 (by_header next as_call (λ n. as_call) h) (left c.header_from.new.parser)) c.in-Alone.is
+          ∙ ap (λ (x : Expr). run_parser c.header_from.new.parser.edition 250 (next (trees.call_statement (expr_of x))) (left c.header_from.new.parser)) (sym c.into_inner-in-Alone.ensures);
     }
 
 pub returns-in-Range-clause-reads : goal.returns-in-Range-clause-reads
 returns-in-Range-clause-reads c = λ next.
-    let as_call = λ (a : trees.Expr). next (trees.call_statement a) in
+    let as_call = λ (a : trees.Expression). next (trees.call_statement a) in
     record {
       by = (c.in_ok-simple.ensures.reads next as_call (λ n. as_call)).by
-          ∙ ap (λ (h : Header). run c.header_from.new.parser.edition 250 (by_header next as_call (λ n. as_call) h) (left c.header_from.new.parser)) c.in-Range.is
-          ∙ ap (λ (x : Expr). run c.header_from.new.parser.edition 250 (next (trees.call_statement (expr_of x))) (left c.header_from.new.parser)) (sym c.into_inner-in-Range.ensures);
+          ∙ ap (λ (h : Header). run_parser c.header_from.new.parser.edition 250 (by_header next as_call (λ n. as_call) h) (left c.header_from.new.parser)) c.in-Range.is
+          ∙ ap (λ (x : Expr). run_parser c.header_from.new.parser.edition 250 (next (trees.call_statement (expr_of x))) (left c.header_from.new.parser)) (sym c.into_inner-in-Range.ensures);
     }

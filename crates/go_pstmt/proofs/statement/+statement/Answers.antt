@@ -3,7 +3,7 @@ use Rattle.go_text.specs.declared.place.Place.{Place}
 use Rattle.go_ast.specs.Trees as trees
 use Rattle.go_ast.specs.Expected.{Expected}
 use Rattle.go_ast.specs.Grammar.{Lexeme, closing_brace, simple_place}
-use Rattle.go_ast.specs.Machine.{State, list_start, list_end, clause_start, clause_end, statements, open_block, else_part, behind_if, behind_else, behind_for, behind_switch, pack_clauses, run}
+use Rattle.go_ast.specs.Machine.{Reader, list_start, list_end, clause_start, clause_end, statements, open_block, else_part, behind_if, behind_else, behind_for, behind_switch, pack_cases, run_parser}
 use Rattle.go_ast.specs.Tokens.{lexeme}
 use Rattle.go_ast.specs.Views.{stmt_of, clause_of, block_of, expr_of, simple_of, if_boxed}
 use Rattle.go_pstmt.specs.Turns.{for_of}
@@ -23,8 +23,8 @@ use Rattle.go_pstmt.proofs.statement.+statement.Goals as goal
 -- blocks
 
 -- what is due behind the statements of a block
-abbrev in_block : Place → (trees.Block → State) → List trees.Stmt → Lexeme → State
-in_block p next ss closing = next (trees.block p (trees.pack_stmts ss) closing.place)
+abbrev in_block : Place → (trees.Block → Reader) → List trees.Statement → Lexeme → Reader
+in_block p next ss closing = next (trees.block p (trees.pack_statements ss) closing.place)
 
 pub block-returns-in_err-item-clause-reads : goal.block-returns-in_err-item-clause-reads
 block-returns-in_err-item-clause-reads t c = λ next.
@@ -65,7 +65,7 @@ block-returns-clause-reads t c = λ next.
       by = (c.in_ok-opening.ensures.reads (open_block c.args.level next)).by ∙ c.statements.invariant.reads n
           ∙ same_at c.statements.parser.edition _ _ closing_brace (left c.statements.parser) (c.is_next.ensures.0 c.statements-test.false) (λ text p. refl)
           ∙ (c.in_ok-closing.ensures.reads (n (map stmt_of c.statements.statements.items))).by
-          ∙ ap (λ (ss : List Stmt). run c.expect-2.new.self.edition 250 (n (map stmt_of ss) (lexeme c.args.parser.now.text.now c.in_ok-closing.closing)) (left c.expect-2.new.self)) (sym c.shrink_to_fit.ensures.items);
+          ∙ ap (λ (ss : List Stmt). run_parser c.expect-2.new.self.edition 250 (n (map stmt_of ss) (lexeme c.args.parser.now.text.now c.in_ok-closing.closing)) (left c.expect-2.new.self)) (sym c.shrink_to_fit.ensures.items);
     }
 
 -- items
@@ -73,43 +73,43 @@ block-returns-clause-reads t c = λ next.
 pub item-returns-in_err-token-clause-reads : goal.item-returns-in_err-token-clause-reads
 item-returns-in_err-token-clause-reads t c = λ before next front does between.
     let old = map stmt_of c.args.statements.now.items in
-    let n = λ (x : Expected) (s : trees.Stmt). next x (old ++ s ∷ []) in
-    let f = λ (s : trees.Stmt). front (old ++ s ∷ []) in
+    let n = λ (x : Expected) (s : trees.Statement). next x (old ++ s ∷ []) in
+    let f = λ (s : trees.Statement). front (old ++ s ∷ []) in
     then_fails (item_empty c.args.parser.now.edition before c.args.level n f (left c.args.parser.now) does (c.if-is_next.ensures.0 refl)) (c.in_err-token.ensures.reads (λ t. f (trees.empty t.place))) c.from_residual.ensures.1
 
 pub item-returns-in_err-statement-clause-reads : goal.item-returns-in_err-statement-clause-reads
 item-returns-in_err-statement-clause-reads t c = λ before next front does between.
     let old = map stmt_of c.args.statements.now.items in
-    let n = λ (x : Expected) (s : trees.Stmt). next x (old ++ s ∷ []) in
-    let f = λ (s : trees.Stmt). front (old ++ s ∷ []) in
+    let n = λ (x : Expected) (s : trees.Statement). next x (old ++ s ∷ []) in
+    let f = λ (s : trees.Statement). front (old ++ s ∷ []) in
     then_fails (item_due c.args.parser.now.edition before c.args.level n f (left c.args.parser.now) does (λ h. false_true (c.if-is_next.ensures.1 h))) (c.in_err-statement.ensures.reads (λ s. n (behind_of s) s)) c.from_residual-in_err-statement.ensures.1
 
 pub item-returns-then-is_next-clause-reads : goal.item-returns-then-is_next-clause-reads
 item-returns-then-is_next-clause-reads t c = λ before next front does between.
     let old = map stmt_of c.args.statements.now.items in
-    let n = λ (x : Expected) (s : trees.Stmt). next x (old ++ s ∷ []) in
-    let f = λ (s : trees.Stmt). front (old ++ s ∷ []) in
+    let n = λ (x : Expected) (s : trees.Statement). next x (old ++ s ∷ []) in
+    let f = λ (s : trees.Statement). front (old ++ s ∷ []) in
     let p = c.in_ok-token.token.place in
-    let all = ap (λ (ss : List Stmt). map stmt_of ss) c.in_ok-push.ensures.items ∙ pushed stmt_of c.args.statements.now.items (stmts.Empty p) ∙ ap (λ (s : trees.Stmt). old ++ s ∷ []) (empty_seen p) in
+    let all = ap (λ (ss : List Stmt). map stmt_of ss) c.in_ok-push.ensures.items ∙ pushed stmt_of c.args.statements.now.items (stmts.Empty p) ∙ ap (λ (s : trees.Statement). old ++ s ∷ []) (empty_seen p) in
     record {
       by = item_empty c.args.parser.now.edition before c.args.level n f (left c.args.parser.now) does (c.if-is_next.ensures.0 refl)
           ∙ (c.in_ok-token.ensures.reads (λ t. f (trees.empty t.place))).by
-          ∙ ap (λ (ss : List trees.Stmt). run c.expect.new.self.edition 250 (front ss) (left c.expect.new.self)) (sym all);
+          ∙ ap (λ (ss : List trees.Statement). run_parser c.expect.new.self.edition 250 (front ss) (left c.expect.new.self)) (sym all);
     }
 
 pub item-returns-clause-reads : goal.item-returns-clause-reads
 item-returns-clause-reads t c = λ before next front does between.
     let old = map stmt_of c.args.statements.now.items in
-    let n = λ (x : Expected) (s : trees.Stmt). next x (old ++ s ∷ []) in
-    let f = λ (s : trees.Stmt). front (old ++ s ∷ []) in
+    let n = λ (x : Expected) (s : trees.Statement). next x (old ++ s ∷ []) in
+    let f = λ (s : trees.Statement). front (old ++ s ∷ []) in
     let s = stmt_of c.in_ok-statement.statement in
     let x = expected_of c.expected_behind-behind.result in
     let all = ap (λ (ss : List Stmt). map stmt_of ss) c.in_ok-push-2.ensures.items ∙ pushed stmt_of c.args.statements.now.items c.in_ok-statement.statement in
-    subst (λ (ss : List trees.Stmt). Reads {A = Unit {0}} before (λ _. front ss) c.args.parser.now c.item_end.result c.item_end.new.parser) (sym all)
+    subst (λ (ss : List trees.Statement). Reads {A = Unit {0}} before (λ _. front ss) c.args.parser.now c.item_end.result c.item_end.new.parser) (sym all)
     (then_reads c.item_end.result
     (item_due c.args.parser.now.edition before c.args.level n f (left c.args.parser.now) does (λ h. false_true (c.if-is_next.ensures.1 h))
     ∙ (c.in_ok-statement.ensures.reads (λ r. n (behind_of r) r)).by
-    ∙ ap (λ (y : Expected). run c.statement.new.parser.edition 250 (n y s) (left c.statement.new.parser)) (sym c.expected_behind-behind.ensures))
+    ∙ ap (λ (y : Expected). run_parser c.statement.new.parser.edition 250 (n y s) (left c.statement.new.parser)) (sym c.expected_behind-behind.ensures))
     (c.item_end.ensures.reads (n x s) (f s) (between _ x (old ++ s ∷ []))))
 
 -- clauses
@@ -142,7 +142,7 @@ clause_statements-returns-clause-reads t c = λ done p values next.
     record {
       by = c.statements.invariant.reads done p values next
           ∙ clause_done c.statements.parser.edition c.args.level done p values next (map stmt_of c.statements.statements.items) (left c.statements.parser) (c.ends_clause.ensures.0 c.statements-test.false)
-          ∙ ap (λ (ss : List Stmt). run c.statements.parser.edition 250 (clauses_behind c.args.level (done ++ (p, (values, map stmt_of ss)) ∷ []) next) (left c.statements.parser)) (sym c.shrink_to_fit.ensures.items);
+          ∙ ap (λ (ss : List Stmt). run_parser c.statements.parser.edition 250 (clauses_behind c.args.level (done ++ (p, (values, map stmt_of ss)) ∷ []) next) (left c.statements.parser)) (sym c.shrink_to_fit.ensures.items);
     }
 
 pub clauses-returns-in_err-clause-clause-reads : goal.clauses-returns-in_err-clause-clause-reads
@@ -152,23 +152,23 @@ clauses-returns-in_err-clause-clause-reads t c = λ next.
 pub clauses-returns-in_err-clause-2-clause-reads : goal.clauses-returns-in_err-clause-2-clause-reads
 clauses-returns-in_err-clause-2-clause-reads t c = λ next.
     let done = map clause_of c.clauses.clauses.items in
-    let n = λ (cs : trees.Clauses) (_ : Lexeme). next cs in
+    let n = λ (cs : trees.Cases) (_ : Lexeme). next cs in
     let k = c.in_ok-clause.clause in
     then_fails (c.clauses.invariant.reads n ∙ (c.in_ok-clause.ensures.reads done n).by) (c.in_err-clause-2.ensures.reads done k.place (clause_of k).1.0 n) c.from_residual-in_err-clause-2.ensures.1
 
 pub clauses-returns-in_err-expect-clause-reads : goal.clauses-returns-in_err-expect-clause-reads
 clauses-returns-in_err-expect-clause-reads t c = λ next.
     let done = map clause_of c.clauses.clauses.items in
-    let n = λ (cs : trees.Clauses) (_ : Lexeme). next cs in
+    let n = λ (cs : trees.Cases) (_ : Lexeme). next cs in
     let closed = c.clauses.invariant.reads n ∙ clauses_close c.clauses.parser.edition c.args.level done n (left c.clauses.parser) (c.is_next.ensures.0 c.clauses-test.false) in
-    then_fails closed (c.in_err-expect.ensures.reads (n (pack_clauses done))) c.from_residual-in_err-expect.ensures.1
+    then_fails closed (c.in_err-expect.ensures.reads (n (pack_cases done))) c.from_residual-in_err-expect.ensures.1
 
 pub clauses-returns-clause-reads : goal.clauses-returns-clause-reads
 clauses-returns-clause-reads t c = λ next.
     let done = map clause_of c.clauses.clauses.items in
-    let n = λ (cs : trees.Clauses) (_ : Lexeme). next cs in
+    let n = λ (cs : trees.Cases) (_ : Lexeme). next cs in
     let closed = c.clauses.invariant.reads n ∙ clauses_close c.clauses.parser.edition c.args.level done n (left c.clauses.parser) (c.is_next.ensures.0 c.clauses-test.false) in
-    record { by = closed ∙ (c.in_ok-expect.ensures.reads (n (pack_clauses done))).by }
+    record { by = closed ∙ (c.in_ok-expect.ensures.reads (n (pack_cases done))).by }
 
 pub conditional-returns-in_err-head-clause-reads : goal.conditional-returns-in_err-head-clause-reads
 conditional-returns-in_err-head-clause-reads t c = λ next.
@@ -209,7 +209,7 @@ for_loop-returns-in_err-body-clause-reads t c = λ next.
     let h = c.in_ok-turns.turns in
     let one = (c.in_ok-word.ensures.reads (behind_for l next)).by in
     let two = one ∙ (c.in_ok-turns.ensures.reads (lexeme c.args.parser.now.text.now c.in_ok-word.word) next).by in
-    let three = two ∙ ap (λ (s : State). run c.turns_from.new.parser.edition 250 s (left c.turns_from.new.parser)) (turns_open l p next h) in
+    let three = two ∙ ap (λ (s : Reader). run_parser c.turns_from.new.parser.edition 250 s (left c.turns_from.new.parser)) (turns_open l p next h) in
     then_fails three (c.in_err-body.ensures.reads (λ b. next (for_of p h b))) c.from_residual-in_err-body.ensures.1
 
 pub otherwise-returns-then-not-is_next-clause-reads : goal.otherwise-returns-then-not-is_next-clause-reads
@@ -217,7 +217,7 @@ otherwise-returns-then-not-is_next-clause-reads t c = λ p i e b next.
     let l = c.args.level in
     let n = λ (r : trees.Else). next (trees.conditional p i e b r) in
     let ts = left c.args.parser.now in
-    record { by = else_missing c.args.parser.now.edition l p i e b next ts (λ f. false_true (c.if-not-is_next.ensures.1 f)) ∙ ap (λ (r : trees.Else). run c.args.parser.now.edition 250 (n r) ts) (sym no_else_seen) }
+    record { by = else_missing c.args.parser.now.edition l p i e b next ts (λ f. false_true (c.if-not-is_next.ensures.1 f)) ∙ ap (λ (r : trees.Else). run_parser c.args.parser.now.edition 250 (n r) ts) (sym no_else_seen) }
 
 pub otherwise-returns-in_err-expect-clause-reads : goal.otherwise-returns-in_err-expect-clause-reads
 otherwise-returns-in_err-expect-clause-reads t c = λ p i e b next.
@@ -244,7 +244,7 @@ otherwise-returns-then-is_next-clause-reads t c = λ p i e b next.
     let three = two ∙ else_if_comes c.expect.new.self.edition l n (left c.expect.new.self) (c.if-is_next.ensures.0 refl) in
     record {
       by = three ∙ (c.in_ok-other.ensures.reads (λ o. n (trees.else_if o))).by
-          ∙ ap (λ (r : trees.Else). run c.conditional.new.parser.edition 250 (n r) (left c.conditional.new.parser)) (sym (else_if_seen c.in_ok-other-2.other c.in_ok-other.other c.in_ok-other-2.ensures.ok));
+          ∙ ap (λ (r : trees.Else). run_parser c.conditional.new.parser.edition 250 (n r) (left c.conditional.new.parser)) (sym (else_if_seen c.in_ok-other-2.other c.in_ok-other.other c.in_ok-other-2.ensures.ok));
     }
 
 pub otherwise-returns-in_err-block-clause-reads : goal.otherwise-returns-in_err-block-clause-reads
@@ -265,7 +265,7 @@ otherwise-returns-clause-reads t c = λ p i e b next.
     let three = two ∙ else_block_comes c.expect.new.self.edition l n (left c.expect.new.self) (λ f. false_true (c.if-is_next.ensures.1 f)) in
     record {
       by = three ∙ (c.in_ok-block.ensures.reads (λ o. n (trees.else_block o))).by
-          ∙ ap (λ (r : trees.Else). run c.block.new.parser.edition 250 (n r) (left c.block.new.parser)) (sym (else_block_seen c.in_ok-block.block));
+          ∙ ap (λ (r : trees.Else). run_parser c.block.new.parser.edition 250 (n r) (left c.block.new.parser)) (sym (else_block_seen c.in_ok-block.block));
     }
 
 pub statement-returns-in_err-statement-2-clause-reads : goal.statement-returns-in_err-statement-2-clause-reads
@@ -292,7 +292,7 @@ statement-returns-then-is_next-clause-reads t c = λ next.
     let ts = left c.jump.new.parser in
     let n = λ (b : trees.Block). next (trees.block_statement b) in
     let three = two ∙ block_comes c.jump.new.parser.edition l next ts (c.if-is_next.ensures.0 refl) in
-    record { by = three ∙ (c.in_ok-block.ensures.reads n).by ∙ ap (λ (s : trees.Stmt). run c.block.new.parser.edition 250 (next s) (left c.block.new.parser)) (sym (block_seen c.in_ok-block.block)) }
+    record { by = three ∙ (c.in_ok-block.ensures.reads n).by ∙ ap (λ (s : trees.Statement). run_parser c.block.new.parser.edition 250 (next s) (left c.block.new.parser)) (sym (block_seen c.in_ok-block.block)) }
 
 pub statement-returns-in_err-conditional-clause-reads : goal.statement-returns-in_err-conditional-clause-reads
 statement-returns-in_err-conditional-clause-reads t c = λ next.
@@ -316,7 +316,7 @@ statement-returns-then-is_next-2-clause-reads t c = λ next.
     let four = three ∙ if_comes c.jump.new.parser.edition l next ts (c.if-is_next-2.ensures.0 refl) in
     record {
       by = four ∙ (c.in_ok-conditional.ensures.reads n).by
-          ∙ ap (λ (s : trees.Stmt). run c.conditional.new.parser.edition 250 (next s) (left c.conditional.new.parser)) (sym (if_seen c.in_ok-conditional.conditional));
+          ∙ ap (λ (s : trees.Statement). run_parser c.conditional.new.parser.edition 250 (next s) (left c.conditional.new.parser)) (sym (if_seen c.in_ok-conditional.conditional));
     }
 
 pub statement-returns-then-is_next-3-clause-reads : goal.statement-returns-then-is_next-3-clause-reads
@@ -368,8 +368,8 @@ statement-returns-clause-reads t c = λ next.
     let rest = left c.simple.new.parser in
     record {
       by = six ∙ (c.in_ok-simple.ensures.reads n).by
-          ∙ ap (λ (p : Place). run c.simple.new.parser.edition 250 (next (trees.simple p (simple_of s))) rest) (sym c.place_of-place.ensures)
-          ∙ ap (λ (r : trees.Stmt). run c.simple.new.parser.edition 250 (next r) rest) (sym (simple_seen c.place_of-place.result s));
+          ∙ ap (λ (p : Place). run_parser c.simple.new.parser.edition 250 (next (trees.simple p (simple_of s))) rest) (sym c.place_of-place.ensures)
+          ∙ ap (λ (r : trees.Statement). run_parser c.simple.new.parser.edition 250 (next r) rest) (sym (simple_seen c.place_of-place.result s));
     }
 
 pub switch-returns-in_err-head-clause-reads : goal.switch-returns-in_err-head-clause-reads
@@ -397,5 +397,5 @@ switch-returns-clause-reads t c = λ next.
       by = (c.in_ok-word.ensures.reads (behind_switch l next)).by
           ∙ (c.in_ok-head.ensures.reads (lexeme c.args.parser.now.text.now c.in_ok-word.word) next).by
           ∙ (c.in_ok-clauses.ensures.reads (λ ks. next (trees.switch_statement p i e ks))).by
-          ∙ ap (λ (s : trees.Stmt). run c.clauses.new.parser.edition 250 (next s) rest) (sym (switch_seen p c.in_ok-head.head.init c.in_ok-head.head.value c.in_ok-clauses.clauses));
+          ∙ ap (λ (s : trees.Statement). run_parser c.clauses.new.parser.edition 250 (next s) rest) (sym (switch_seen p c.in_ok-head.head.init c.in_ok-head.head.value c.in_ok-clauses.clauses));
     }

@@ -2,7 +2,7 @@ use Rattle.std.proofs.Common.{◌≡◌, ◌+◌, ◌*◌, ◌<◌, ◌≤◌, L
 use Rattle.go_text.specs.declared.place.Place.{Place}
 use Rattle.go_ast.specs.Trees as trees
 use Rattle.go_ast.specs.Grammar.{Lexeme}
-use Rattle.go_ast.specs.Machine.{State, Clause, list_start, statements, clause_start, run}
+use Rattle.go_ast.specs.Machine.{Reader, Clause, list_start, statements, clause_start, run_parser}
 use Rattle.go_ast.specs.Views.{stmt_of, clause_of}
 use Rattle.go_pexpr.specs.Reads.{left, size}
 use Rattle.go_pstmt.specs.Due.{clauses_behind}
@@ -37,8 +37,8 @@ decreases-clause_statements l = 4 * size l.parser.now + 3
 
 abbrev pub invariant-block-statements : goal.invariant-block-statements
 invariant-block-statements l = record {
-  reads : (next : List trees.Stmt → Lexeme → State) →
-      run l.initial.parser.edition 250 (list_start (statements (l.fn.level + 1)) [] next) (left l.initial.parser) ≡ run l.parser.edition 250 (list_start (statements (l.fn.level + 1)) (map stmt_of l.statements.items) next) (left l.parser);
+  reads : (next : List trees.Statement → Lexeme → Reader) →
+      run_parser l.initial.parser.edition 250 (list_start (statements (l.fn.level + 1)) [] next) (left l.initial.parser) ≡ run_parser l.parser.edition 250 (list_start (statements (l.fn.level + 1)) (map stmt_of l.statements.items) next) (left l.parser);
   shorter : size l.parser < size l.fn.parser;
 }
 
@@ -47,8 +47,8 @@ decreases-block-statements l = size l.parser
 
 abbrev pub invariant-clauses-clauses : goal.invariant-clauses-clauses
 invariant-clauses-clauses l = record {
-  reads : (next : trees.Clauses → Lexeme → State) →
-      run l.fn.parser.edition 250 (clauses_behind l.fn.level [] next) (left l.fn.parser) ≡ run l.parser.edition 250 (clauses_behind l.fn.level (map clause_of l.clauses.items) next) (left l.parser);
+  reads : (next : trees.Cases → Lexeme → Reader) →
+      run_parser l.fn.parser.edition 250 (clauses_behind l.fn.level [] next) (left l.fn.parser) ≡ run_parser l.parser.edition 250 (clauses_behind l.fn.level (map clause_of l.clauses.items) next) (left l.parser);
   shorter : size l.parser ≤ size l.fn.parser;
 }
 
@@ -57,8 +57,8 @@ decreases-clauses-clauses l = size l.parser
 
 abbrev pub invariant-clause_statements-statements : goal.invariant-clause_statements-statements
 invariant-clause_statements-statements l = record {
-  reads : (done : List Clause) (p : Place) (values : Option trees.Exprs) (next : trees.Clauses → Lexeme → State) →
-      run l.fn.parser.edition 250 (clause_start l.fn.level done p values [] next) (left l.fn.parser) ≡ run l.parser.edition 250 (clause_start l.fn.level done p values (map stmt_of l.statements.items) next) (left l.parser);
+  reads : (done : List Clause) (p : Place) (values : Option trees.ExpressionList) (next : trees.Cases → Lexeme → Reader) →
+      run_parser l.fn.parser.edition 250 (clause_start l.fn.level done p values [] next) (left l.fn.parser) ≡ run_parser l.parser.edition 250 (clause_start l.fn.level done p values (map stmt_of l.statements.items) next) (left l.parser);
   shorter : size l.parser ≤ size l.fn.parser;
 }
 

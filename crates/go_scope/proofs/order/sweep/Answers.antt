@@ -2,7 +2,7 @@ use Rattle.std.proofs.Common.{◌≡◌, ◌<◌, ◌≤◌, ℕ, true, false, s
 use Rattle.std.proofs.lemmas.Bool.{cases_eq}
 use Rattle.ws_reach.specs.Reach.{rows_of}
 use Rattle.go_scope.specs.declared.order.Placed.{Placed}
-use Rattle.go_scope.specs.Placing.{Settled, left}
+use Rattle.go_scope.specs.Placing.{Settled, unplaced_count}
 use Rattle.go_scope.proofs.order.sweep.Goals as goal
 use Rattle.go_scope.proofs.order.sweep.Goals.{then-branch, else-branch}
 
@@ -26,8 +26,8 @@ loop-declaration-preserved c =
           let same = step.same not_placed in
           record {
             placing = step.placing;
-            most = subst (λ (p : Placed). left p ≤ left c.args.placed.now) (sym same) before.most;
-            less = λ e. subst (λ (p : Placed). left p < left c.args.placed.now) (sym same) (before.less (sym w.grew-is ∙ e));
+            most = subst (λ (p : Placed). unplaced_count p ≤ unplaced_count c.args.placed.now) (sym same) before.most;
+            less = λ e. subst (λ (p : Placed). unplaced_count p < unplaced_count c.args.placed.now) (sym same) (before.less (sym w.grew-is ∙ e));
             settled = λ e i lt. elim (cases_eq i c.loop-declaration.declaration) [
               | inl s ↦ subst (λ (x : ℕ). Settled rows new x) (sym s) (step.settled not_placed c.loop-declaration-test.true)
               | inr ne ↦ subst (λ (p : Placed). Settled rows p i) (sym same) (before.settled (sym w.grew-is ∙ e) i (omega (arith, lt, ne)))

@@ -3,7 +3,7 @@ use Rattle.std.specs.Option.{option_map}
 use Rattle.go_ast.specs.Trees as trees
 use Rattle.go_ast.specs.Trees.{no_exprs}
 use Rattle.go_ast.specs.Views.{const_of}
-use Rattle.go_stmt.specs.Seen.{context_of, env_of, spec_of, typed_in}
+use Rattle.go_stmt.specs.Views.{context_of, env_of, constant_spec, typed_in}
 use Rattle.go_stmt.specs.Statements.{constants_at, group_at}
 use Rattle.go_stmt.proofs.Defining.{answers_err}
 use Rattle.go_stmt.proofs.Leading.{goes_on, fails}
@@ -19,8 +19,8 @@ returns-in_err-more-clause-answer c =
     let env = env_of c.loop-iota.env in
     let s = c.index-specs-iota.result in
     let e = c.in_err-more.field-0.0 in
-    let before = spec_of c.loop-iota.before in
-    let now = spec_of c.meant-before.result in
+    let before = constant_spec c.loop-iota.before in
+    let now = constant_spec c.meant-before.result in
     let repeated = c.is_repeated-repeated.result in
     let rest = map const_of (drop (i + 1) specs) in
     let none : trees.ConstSpec = record { names = []; type = None; values = no_exprs } in
@@ -39,8 +39,8 @@ loop-iota-preserved c =
     let i = c.loop-iota.iota in
     let env = env_of c.loop-iota.env in
     let s = c.index-specs-iota.result in
-    let before = spec_of c.loop-iota.before in
-    let now = spec_of c.meant-before.result in
+    let before = constant_spec c.loop-iota.before in
+    let now = constant_spec c.meant-before.result in
     let repeated = c.is_repeated-repeated.result in
     let rest = map const_of (drop (i + 1) specs) in
     let none : trees.ConstSpec = record { names = []; type = None; values = no_exprs } in

@@ -1,7 +1,7 @@
 use Rattle.std.proofs.Common.{◌≡◌, false, List, Option, length, nat_eq, sym, ap, ◌∙◌}
 use Rattle.go_ast.specs.Trees as trees
 use Rattle.go_ast.specs.Views.{type_of, exprs_in, if_some}
-use Rattle.go_stmt.specs.Seen.{spec_of}
+use Rattle.go_stmt.specs.Views.{constant_spec}
 use Rattle.go_stmt.proofs.Meaning.{meant_own, seen_option}
 use Rattle.go_stmt.proofs.constants.meant.Goals as goal
 
@@ -11,8 +11,8 @@ returns c =
     let names_are = c.as_slice-names.ensures.value in
     let values_are = c.as_slice-values.ensures.value in
     let some : nat_eq (length spec.values.items) 0 ≡ false = ap (λ es. nat_eq (length es) 0) (sym values_are) ∙ sym c.is_empty.ensures ∙ c.if-is_empty.false in
-    let specs : List trees.Name → Option trees.TypeExpr → trees.Exprs → trees.ConstSpec = λ ns t es. record { names = ns; type = t; values = es } in
+    let specs : List trees.Name → Option trees.TypeExpr → trees.ExpressionList → trees.ConstSpec = λ ns t es. record { names = ns; type = t; values = es } in
     ap (λ (t : Option trees.TypeExpr). specs c.as_slice-names.result.now t (exprs_in c.as_slice-values.result.now)) (seen_option c.as_ref.result ∙ ap (if_some type_of) c.as_ref.ensures.value)
     ∙ ap (λ (ns : List trees.Name). specs ns (if_some type_of spec.type_expr) (exprs_in c.as_slice-values.result.now)) names_are
     ∙ ap (λ es. specs spec.names.items (if_some type_of spec.type_expr) (exprs_in es)) values_are
-    ∙ sym (meant_own (spec_of c.args.before) spec.names.items (if_some type_of spec.type_expr) spec.values.items some)
+    ∙ sym (meant_own (constant_spec c.args.before) spec.names.items (if_some type_of spec.type_expr) spec.values.items some)

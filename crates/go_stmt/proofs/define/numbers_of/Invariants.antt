@@ -1,7 +1,7 @@
 use Rattle.std.proofs.Common.{◌≡◌, ◌++◌, drop, map}
-use Rattle.go_stmt.specs.Scopes.{number_of}
-use Rattle.go_stmt.specs.Seen.{env_of}
+use Rattle.go_stmt.specs.Scopes.{variable_number}
+use Rattle.go_stmt.specs.Views.{env_of}
 use Rattle.go_stmt.proofs.define.numbers_of.Given as goal
 
 abbrev pub invariant-loop-name : goal.invariant-loop-name
-invariant-loop-name l = l.all.items ++ map (number_of (env_of l.env)) (drop l.name-index l.names) ≡ map (number_of (env_of l.env)) l.names
+invariant-loop-name l = l.all.items ++ map (variable_number (env_of l.env)) (drop l.name-index l.names) ≡ map (variable_number (env_of l.env)) l.names

@@ -2,10 +2,10 @@ use Rattle.std.proofs.Common.{◌≡◌, ◌+◌, ◌<◌, ◌∷◌, List, leng
 use Rattle.std.proofs.lemmas.Result.{err_from_is_err_and}
 use Rattle.go_ast.specs.Views.{parameter_of}
 use Rattle.go_ast.specs.declared.file.Parameter.{Parameter}
-use Rattle.go_expr.specs.Seen.{Fails}
-use Rattle.go_stmt.specs.Scopes.{Faults}
+use Rattle.go_expr.specs.Views.{Fails}
+use Rattle.go_stmt.specs.Scopes.{StatementFaults}
 use Rattle.go_stmt.specs.Functions.{parameter_at, parameters_at}
-use Rattle.go_stmt.specs.Seen.{context_of, env_of}
+use Rattle.go_stmt.specs.Views.{context_of, env_of}
 use Rattle.go_stmt.proofs.Failing.{fails_front}
 use Rattle.go_stmt.proofs.Sequences.{left}
 use Rattle.go_stmt.proofs.function.check_parameters.Goals as goal
@@ -23,4 +23,4 @@ returns-in_err-more-clause-answer c =
     subst (λ (l : List Parameter). Fails e (parameters_at k (map parameter_of l) (env_of c.loop-parameter.env)).faults) (sym next)
     (fails_front e own.faults (parameters_at k (map parameter_of (drop (i + 1) ps)) own.after).faults c.in_err-more.ensures.answer) in
     let p = err_from_is_err_and c.from_residual.result c.from_residual.ensures.1 in
-    rw (p.1, p.2) (subst (λ (l : Faults). Fails e l) c.loop-parameter.invariant.faults told)
+    rw (p.1, p.2) (subst (λ (l : StatementFaults). Fails e l) c.loop-parameter.invariant.faults told)

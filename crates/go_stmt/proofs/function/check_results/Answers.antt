@@ -6,10 +6,10 @@ use Rattle.go_ast.specs.Trees.{TypeExpr}
 use Rattle.go_ast.specs.Views.{type_of as type_tree}
 use Rattle.go_ast.specs.declared.expression.TypeExpr.{TypeExpr as Written}
 use Rattle.go_types.specs.Types.{Type'}
-use Rattle.go_types.specs.Views.{type_of}
+use Rattle.go_types.specs.Views.{go_type}
 use Rattle.go_expr.specs.Known.{Scope}
 use Rattle.go_expr.specs.Rules.{fine}
-use Rattle.go_expr.specs.Seen.{scope_of}
+use Rattle.go_expr.specs.Views.{scope_of}
 use Rattle.go_expr.specs.Verdicts.{type_verdict, type_faults}
 use Rattle.go_stmt.proofs.function.check_results.Goals as goal
 
@@ -28,7 +28,7 @@ pub returns-clause-types : goal.returns-clause-types
 returns-clause-types c =
     let ts = c.args.results.now in
     let s = scope_of c.outside-scope.result in
-    let done = map (option_map type_of) c.loop-of.all.items in
+    let done = map (option_map go_type) c.loop-of.all.items in
     let rest : drop c.loop-of.of-index ts ≡ [] = drop_all c.loop-of.of-index ts c.loop-of-test.false in
     sym (append-nil done) ∙ ap (λ (l : List Written). done ++ types_in s (map type_tree l)) (sym rest) ∙ c.loop-of.invariant.types
     ∙ ap (λ (x : Scope). types_in x (map type_tree ts)) c.outside-scope.ensures

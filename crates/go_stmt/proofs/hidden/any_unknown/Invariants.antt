@@ -1,7 +1,7 @@
 use Rattle.std.proofs.Common.{◌≡◌, drop, map}
 use Rattle.std.specs.List.{list_any}
 use Rattle.go_scope.specs.Names.{used}
-use Rattle.go_expr.specs.Seen.{scope_of}
+use Rattle.go_expr.specs.Views.{scope_of}
 use Rattle.go_stmt.specs.Statements.{is_unknown}
 use Rattle.go_stmt.proofs.hidden.any_unknown.Given as goal
 

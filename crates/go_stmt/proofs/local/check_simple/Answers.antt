@@ -2,7 +2,7 @@ use Rattle.std.proofs.Common.{Result, Ok, Err, sym, ap, ◌∙◌}
 use Rattle.std.specs.Prelude.{OnOk}
 use Rattle.go_ast.specs.Views.{exprs_in, simple_of}
 use Rattle.go_ast.specs.declared.statement.Simple.{Simple}
-use Rattle.go_stmt.specs.Seen.{context_of, env_of}
+use Rattle.go_stmt.specs.Views.{context_of, env_of}
 use Rattle.go_stmt.specs.Statements.{simple_at}
 use Rattle.go_stmt.proofs.Lefts.{lefts_kept}
 use Rattle.go_stmt.proofs.local.check_simple.Goals as goal

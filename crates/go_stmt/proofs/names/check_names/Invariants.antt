@@ -1,6 +1,6 @@
 use Rattle.std.proofs.Common.{◌≡◌, [], drop, take}
 use Rattle.go_stmt.specs.Statements.{names_faults}
-use Rattle.go_stmt.specs.Seen.{env_of, own_texts}
+use Rattle.go_stmt.specs.Views.{env_of, own_texts}
 use Rattle.go_stmt.proofs.names.check_names.Given as goal
 
 abbrev pub invariant-loop-name : goal.invariant-loop-name

@@ -2,7 +2,7 @@ use Rattle.std.proofs.Common.{◌≡◌, ℕ, ◌+◌, ◌<◌, ◌≤◌, true,
 use Rattle.std.proofs.lemmas.List.{drop_all}
 use Rattle.go_ast.specs.Trees.{Name}
 use Rattle.go_scope.proofs.Indexes.{Differing, differing_all}
-use Rattle.go_stmt.specs.Seen.{own_texts}
+use Rattle.go_stmt.specs.Views.{own_texts}
 use Rattle.go_stmt.proofs.Naming.{is_in, texts_begin, texts_more, texts_not, differ_by_texts}
 use Rattle.go_stmt.proofs.Sequences.{left}
 use Rattle.go_stmt.proofs.names.differ.Goals as goal

@@ -1,6 +1,6 @@
 use Rattle.std.proofs.Common.{drop}
 use Rattle.go_scope.proofs.Indexes.{Differing}
-use Rattle.go_stmt.specs.Seen.{own_texts}
+use Rattle.go_stmt.specs.Views.{own_texts}
 use Rattle.go_stmt.proofs.names.differ.Given as goal
 
 abbrev pub invariant-loop-name : goal.invariant-loop-name

@@ -1,7 +1,7 @@
 use Rattle.std.proofs.Common.{◌++◌, sym}
 use Rattle.go_ast.specs.Views.{expr_of}
 use Rattle.go_expr.specs.Verdicts.{verdict, faults, operand_broken}
-use Rattle.go_expr.specs.Seen.{scope_of}
+use Rattle.go_expr.specs.Views.{scope_of}
 use Rattle.go_expr.proofs.Fineness.{faulty_operand_unknown}
 use Rattle.go_stmt.proofs.Repeats.{is_faulty}
 use Rattle.go_stmt.proofs.repeated.known_value.Goals as goal

@@ -1,7 +1,7 @@
 use Rattle.std.proofs.Common.{◌∙◌}
 use Rattle.std.specs.Option.{option_map}
 use Rattle.go_ast.specs.Views.{type_of, exprs_in}
-use Rattle.go_expr.specs.Seen.{scope_of}
+use Rattle.go_expr.specs.Views.{scope_of}
 use Rattle.go_stmt.specs.Statements.{first_fault, first_faults, written_faults}
 use Rattle.go_stmt.proofs.Repeats.{least_of_both}
 use Rattle.go_stmt.proofs.repeated.repeated_fault.Goals as goal

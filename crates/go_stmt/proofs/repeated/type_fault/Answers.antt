@@ -1,5 +1,5 @@
 use Rattle.go_ast.specs.Views.{type_of}
-use Rattle.go_expr.specs.Seen.{scope_of}
+use Rattle.go_expr.specs.Views.{scope_of}
 use Rattle.go_expr.specs.Verdicts.{type_faults}
 use Rattle.go_stmt.proofs.Repeats.{first_none, first_some}
 use Rattle.go_stmt.proofs.repeated.type_fault.Goals as goal

@@ -1,6 +1,6 @@
 use Rattle.std.proofs.Common.{◌++◌}
 use Rattle.go_ast.specs.Views.{expr_of}
-use Rattle.go_expr.specs.Seen.{scope_of}
+use Rattle.go_expr.specs.Views.{scope_of}
 use Rattle.go_expr.specs.Verdicts.{verdict, faults, operand_broken}
 use Rattle.go_stmt.proofs.Repeats.{first_none, first_some}
 use Rattle.go_stmt.proofs.repeated.value_fault.Goals as goal

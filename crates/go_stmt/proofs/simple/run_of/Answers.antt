@@ -1,8 +1,8 @@
 use Rattle.std.proofs.Common.{◌≡◌, List, map, sym, ap, ◌∙◌}
-use Rattle.go_types.specs.Views.{type_of}
+use Rattle.go_types.specs.Views.{go_type}
 use Rattle.go_types.specs.declared.types.GoType.{GoType}
 use Rattle.go_typed.specs.Trees.{Expr, call, run}
-use Rattle.go_typed.specs.Views.{expr_of, exprs_in, stmt_of}
+use Rattle.go_typed.specs.Views.{as_expr, as_exprs, as_stmt}
 use Rattle.go_typed.specs.declared.expression.TypedExprKind.{TypedExprKind}
 use Rattle.go_typed.proofs.Rows.{call_seen}
 use Rattle.go_expr.specs.Known.{declared, value, Fine}
@@ -10,12 +10,12 @@ use Rattle.go_stmt.specs.Rules.{performed}
 use Rattle.go_stmt.proofs.simple.run_of.Goals as goal
 
 pub returns-in_ok-vec-in-Call : goal.returns-in_ok-vec-in-Call
-unfolding stmt_of
+unfolding as_stmt
 returns-in_ok-vec-in-Call c =
     let of = c.args.call.of in
     let symbol = c.in-Call.symbol in
     let es = c.in-Call.arguments in
-    let seen : expr_of c.args.call ≡ call (type_of of) symbol (exprs_in es.items) =
-    ap (λ (k : TypedExprKind). expr_of (record { of = of; kind = k })) c.in-Call.is ∙ call_seen of symbol es in
+    let seen : as_expr c.args.call ≡ call (go_type of) symbol (as_exprs es.items) =
+    ap (λ (k : TypedExprKind). as_expr (record { of = of; kind = k })) c.in-Call.is ∙ call_seen of symbol es in
     ap (λ (e : Expr). performed (declared (value e))) seen
-    ∙ ap (λ (ts : List GoType). Fine (run (map type_of ts) symbol (exprs_in es.items))) (sym c.in_ok-vec-in-Call.ensures.items)
+    ∙ ap (λ (ts : List GoType). Fine (run (map go_type ts) symbol (as_exprs es.items))) (sym c.in_ok-vec-in-Call.ensures.items)

@@ -7,17 +7,17 @@ use Rattle.go_ast.specs.declared.statement.Stmt.{Stmt}
 use Rattle.go_ast.specs.Views.{expr_of, stmt_of, else_of, simple_of, block_of, if_boxed}
 use Rattle.go_ast.proofs.StatementRows.{if_seen, for_seen, range_seen, switch_seen, block_seen, else_block_seen, else_if_seen}
 use Rattle.go_types.specs.Types.{Type'}
-use Rattle.go_types.specs.Views.{type_of}
+use Rattle.go_types.specs.Views.{go_type}
 use Rattle.go_expr.specs.Rules.{default_type}
 use Rattle.go_expr.specs.Verdicts.{asked, both}
-use Rattle.go_expr.specs.Seen.{Fails, all_of, AnswersAt}
+use Rattle.go_expr.specs.Views.{Fails, all_of, AnswersAt}
 use Rattle.go_typed.specs.Trees as typed
 use Rattle.go_typed.specs.Trees.{expr_type}
-use Rattle.go_typed.specs.Views.{expr_of as typed_expr, clause_of as typed_clause}
+use Rattle.go_typed.specs.Views.{as_expr as typed_expr, as_clause as typed_clause}
 use Rattle.go_stmt.specs.Scopes.{Context, Checked, leave, follow, single}
-use Rattle.go_stmt.specs.Rules.{Clause as ClauseValue, clause_of, looped, switched}
-use Rattle.go_stmt.specs.Seen.{context_of, env_of, typed_in, trees_in, switch_of, cases_tree, clauses_trees, clauses_of, clause_in}
-use Rattle.go_stmt.specs.Statements.{statement_at, else_at, optional_at, condition_at, block_at, begun, before_others, in_loop, in_clause, leads_on, is_last, tag_at, cases_at, list_at, clauses_at}
+use Rattle.go_stmt.specs.Rules.{SwitchClause as ClauseValue, clause_verdict, looped, switched}
+use Rattle.go_stmt.specs.Views.{context_of, env_of, typed_in, trees_in, switch_of, cases_tree, clauses_trees, clauses_of, clause_in}
+use Rattle.go_stmt.specs.Statements.{statement_at, else_at, optional_at, condition_at, block_at, block_context, before_others, in_loop, in_clause, leads_on, has_no_clauses, tag_at, cases_at, list_at, clauses_at}
 use Rattle.go_stmt.proofs.Blocks.{turn, list_left}
 use Rattle.go_stmt.proofs.Clauses.{clauses_left, cases_after}
 use Rattle.go_stmt.proofs.Defining.{answers_err}
@@ -148,7 +148,7 @@ check_switch-returns-clause-answer t c =
     let cs = clauses_trees c.args.clauses.now in
     let clauses = λ (v : Option typed.Expr). clauses_at k (of v) false cs in
     let there = env_of c.check_optional.new.env in
-    let type : of (option_map typed_expr c.in_ok-tag.tag) ≡ option_map type_of c.in_ok-of.of = sym c.in_ok-of.ensures in
+    let type : of (option_map typed_expr c.in_ok-tag.tag) ≡ option_map go_type c.in_ok-of.of = sym c.in_ok-of.ensures in
     answered_upon place (λ x. switched x.0 (x.1).0 (x.1).1) before (tag_at k o) clauses typed_in c.switched.result (env_of c.args.env.now) (env_of c.enter.new.self) there
     (option_map typed_in c.in_ok-before.before) (option_map typed_expr c.in_ok-tag.tag) (option_map clauses_of c.in_ok-clauses.clauses) c.in_ok-enter.ensures
     c.in_ok-before.ensures.answer.0 c.in_ok-before.ensures.answer.1 c.in_ok-before.ensures.after c.in_ok-tag.ensures.0 c.in_ok-tag.ensures.1 (tag_after k o there)
@@ -164,7 +164,7 @@ check_switch-returns-clause-after t c =
     let cs = clauses_trees c.args.clauses.now in
     let clauses = λ (v : Option typed.Expr). clauses_at k (of v) false cs in
     let there = env_of c.check_optional.new.env in
-    let type : of (option_map typed_expr c.in_ok-tag.tag) ≡ option_map type_of c.in_ok-of.of = sym c.in_ok-of.ensures in
+    let type : of (option_map typed_expr c.in_ok-tag.tag) ≡ option_map go_type c.in_ok-of.of = sym c.in_ok-of.ensures in
     on_ok c.switched.result _
     (after_upon place (λ x. switched x.0 (x.1).0 (x.1).1) before (tag_at k o) clauses (env_of c.args.env.now) (env_of c.enter.new.self) there _ (option_map typed_expr c.in_ok-tag.tag) c.in_ok-enter.ensures
     c.in_ok-before.ensures.after c.in_ok-tag.ensures.1 (tag_after k o there)
@@ -184,7 +184,7 @@ check_list-loop-i-preserved t c =
     c.before_others-here.ensures ∙ ap (λ (l : List Stmt). before_others (context_of c.behind.result) (trees_in l)) (take_rest ss (i + 1))
     ∙ ap (λ (x : Context). before_others x (trees_in rest)) c.behind.ensures in
     goes_on (statement_at (context_of c.before_others-here.result) (stmt_of s)) (list_at (turn k ss (i + 1)) (trees_in rest)) env (env_of c.check_statement.new.env)
-    (list_at (begun k) (trees_in ss) (env_of c.args.env.now)) (list_at (turn k ss i) (trees_in (drop i ss)) env)
+    (list_at (block_context k) (trees_in ss) (env_of c.args.env.now)) (list_at (turn k ss i) (trees_in (drop i ss)) env)
     (option_map typed_in c.loop-i.known) (option_map typed_in c.in_ok-known.known) (option_map typed_in c.in_ok-more.more)
     (list_left k (context_of c.before_others-here.result) ss i s env (omega arith) c.index-statements-i.is here)
     c.loop-i.invariant c.in_ok-more.ensures.answer.0 c.in_ok-more.ensures.answer.1 c.in_ok-more.ensures.after c.in_ok-known.ensures
@@ -198,7 +198,7 @@ check_list-returns-in_err-more-clause-answer t c =
     let env = env_of c.loop-i.env in
     let rest = drop (i + 1) ss in
     let e = c.in_err-more.field-0.0 in
-    let all = list_at (begun k) (trees_in ss) (env_of c.args.env.now) in
+    let all = list_at (block_context k) (trees_in ss) (env_of c.args.env.now) in
     let here : context_of c.before_others-here.result ≡ before_others (turn k ss i) (trees_in rest) =
     c.before_others-here.ensures ∙ ap (λ (l : List Stmt). before_others (context_of c.behind.result) (trees_in l)) (take_rest ss (i + 1))
     ∙ ap (λ (x : Context). before_others x (trees_in rest)) c.behind.ensures in
@@ -215,17 +215,17 @@ check_clause-returns-clause-answer t c =
     let s = c.args.s.now in
     let ss = trees_in s.statements.items in
     let last = c.args.last in
-    let v = option_map type_of c.args.tag.now in
+    let v = option_map go_type c.args.tag.now in
     let there = env_of c.enter.new.self in
     let values = cases_at k (cases_tree s.values) in
     let body = list_at (in_clause k (not last)) ss in
     let a = option_map (option_map (all_of typed_expr)) c.in_ok-values.values in
     let b = option_map typed_in c.in_ok-body.body in
-    let same : list_at (begun (context_of c.in_clause.result)) (trees_in c.deref.result.now) there ≡ body there =
-    ap (λ (x : Context). list_at (begun x) (trees_in c.deref.result.now) there) c.in_clause.ensures ∙ ap (λ (l : List Stmt). list_at (in_clause k (not last)) (trees_in l) there) c.deref.ensures.value in
+    let same : list_at (block_context (context_of c.in_clause.result)) (trees_in c.deref.result.now) there ≡ body there =
+    ap (λ (x : Context). list_at (block_context x) (trees_in c.deref.result.now) there) c.in_clause.ensures ∙ ap (λ (l : List Stmt). list_at (in_clause k (not last)) (trees_in l) there) c.deref.ensures.value in
     let falls : c.falls_through-falls.result ≡ (leads_on ss && not last) =
     c.falls_through-falls.ensures ∙ ap (λ (l : List Stmt). leads_on (trees_in l) && not last) c.deref-2.ensures.value in
-    let rule = λ (f : Bool) (x : Option (List typed.Expr) × List typed.Stmt). clause_of v c.args.again f x.0 x.1 in
+    let rule = λ (f : Bool) (x : Option (List typed.Expr) × List typed.Stmt). clause_verdict v c.args.again f x.0 x.1 in
     let told = subst (λ (f : Bool). AnswersAt typed_clause c.clause.result s.place (asked (rule f) (both a b))) falls c.clause.ensures in
     answered_inside typed_clause c.clause.result s.place (rule (leads_on ss && not last)) values body (env_of c.args.env.now) there there a b c.in_ok-enter.ensures
     c.in_ok-values.ensures.0 c.in_ok-values.ensures.1 (cases_after k (cases_tree s.values) there)
@@ -234,7 +234,7 @@ check_clause-returns-clause-answer t c =
 pub check_clauses-loop-i-preserved : goal.check_clauses-loop-i-preserved
 check_clauses-loop-i-preserved t c =
     let k = context_of c.args.context in
-    let v = option_map type_of c.args.tag.now in
+    let v = option_map go_type c.args.tag.now in
     let cs = c.args.clauses.now in
     let i = c.loop-i.i in
     let s = c.index-clauses-i.result in
@@ -245,7 +245,7 @@ check_clauses-loop-i-preserved t c =
     let first = single (clause_in k v again c.is_last-last.result s) in
     let second = clauses_at k v more (clauses_trees (drop (i + 1) cs)) in
     let within : i < length cs = omega arith in
-    let end : c.is_last-last.result ≡ is_last (clauses_trees (drop (i + 1) cs)) = c.is_last-last.ensures ∙ ap (λ (l : List Clause). is_last (clauses_trees l)) (take_rest cs (i + 1)) in
+    let end : c.is_last-last.result ≡ has_no_clauses (clauses_trees (drop (i + 1) cs)) = c.is_last-last.ensures ∙ ap (λ (l : List Clause). has_no_clauses (clauses_trees l)) (take_rest cs (i + 1)) in
     let same = clauses_left k v again c.is_last-last.result more cs i s env (left cs i s within c.index-clauses-i.is) end c.has_default-again.ensures in
     let none = c.in_ok-more.ensures.answer.0 in
     let after = c.in_ok-more.ensures.after in

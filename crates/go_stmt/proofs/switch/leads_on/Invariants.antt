@@ -1,6 +1,6 @@
 use Rattle.std.proofs.Common.{◌≡◌, drop}
 use Rattle.go_stmt.specs.Statements.{leads_on}
-use Rattle.go_stmt.specs.Seen.{trees_in}
+use Rattle.go_stmt.specs.Views.{trees_in}
 use Rattle.go_stmt.proofs.switch.leads_on.Given as goal
 
 abbrev pub invariant-loop-i : goal.invariant-loop-i

@@ -1,13 +1,13 @@
 use Rattle.std.proofs.Common.{◌≡◌, ◌++◌, drop, map}
 use Rattle.std.specs.Option.{option_map}
 use Rattle.go_ast.specs.Views.{exprs_in}
-use Rattle.go_typed.specs.Views.{expr_of}
+use Rattle.go_typed.specs.Views.{as_expr}
 use Rattle.go_expr.specs.Verdicts.{operand, verdict}
-use Rattle.go_expr.specs.Seen.{scope_of}
+use Rattle.go_expr.specs.Views.{scope_of}
 use Rattle.go_stmt.specs.Statements.{each_of}
 use Rattle.go_stmt.proofs.values.known_values.Given as goal
 
 abbrev pub invariant-loop-e : goal.invariant-loop-e
 invariant-loop-e l =
-    map (option_map expr_of) l.all.items ++ each_of (λ e. operand (verdict (scope_of l.scope) e)) (exprs_in (drop l.e-index l.es))
+    map (option_map as_expr) l.all.items ++ each_of (λ e. operand (verdict (scope_of l.scope) e)) (exprs_in (drop l.e-index l.es))
     ≡ each_of (λ e. operand (verdict (scope_of l.scope) e)) (exprs_in l.es)

@@ -2,10 +2,10 @@ use Rattle.std.proofs.Common.{◌≡◌, ◌+◌, ◌<◌, ◌∷◌, List, [], 
 use Rattle.std.specs.List.{zip}
 use Rattle.std.specs.Option.{option_map}
 use Rattle.go_types.specs.Types.{Type'}
-use Rattle.go_types.specs.Views.{type_of}
+use Rattle.go_types.specs.Views.{go_type}
 use Rattle.go_types.specs.declared.types.GoType.{GoType}
 use Rattle.go_typed.specs.Trees as typed
-use Rattle.go_typed.specs.Views.{expr_of}
+use Rattle.go_typed.specs.Views.{as_expr}
 use Rattle.go_typed.specs.declared.expression.TypedExpr.{TypedExpr}
 use Rattle.go_expr.proofs.Gathering.{Leads, adds, ends}
 use Rattle.go_stmt.specs.Rules.{suited_one}
@@ -20,22 +20,22 @@ loop-value-preserved c =
     let of = c.in-Some-get.of.now in
     let value = c.in-Some.value in
     let rest = c.next.new.self.rest.items in
-    let whole = map suited_one (zip (map (option_map type_of) due) (map expr_of c.args.values.items)) in
+    let whole = map suited_one (zip (map (option_map go_type) due) (map as_expr c.args.values.items)) in
     let within : i < length due = c.in-Some-get.ensures.lookup.3.0 in
-    let begun = subst (λ (l : List TypedExpr). Leads expr_of all.values.items all.fault (map suited_one (zip (map (option_map type_of) (drop i due)) (map expr_of l))) [] whole) c.in-Some.ensures.steps.0 c.loop-value.invariant in
+    let begun = subst (λ (l : List TypedExpr). Leads as_expr all.values.items all.fault (map suited_one (zip (map (option_map go_type) (drop i due)) (map as_expr l))) [] whole) c.in-Some.ensures.steps.0 c.loop-value.invariant in
     let before =
-    subst (λ (l : List (Option GoType)). Leads expr_of all.values.items all.fault (map suited_one (zip (map (option_map type_of) l) (map expr_of (value ∷ rest)))) [] whole)
+    subst (λ (l : List (Option GoType)). Leads as_expr all.values.items all.fault (map suited_one (zip (map (option_map go_type) l) (map as_expr (value ∷ rest)))) [] whole)
     (left due i of within c.in-Some-get.ensures.lookup.1) begun in
-    adds expr_of all.values.items _ all.fault _ (map suited_one (zip (map (option_map type_of) (drop (i + 1) due)) (map expr_of rest))) [] whole (suited_one (option_map type_of of, expr_of value)) c.suit_one.result
+    adds as_expr all.values.items _ all.fault _ (map suited_one (zip (map (option_map go_type) (drop (i + 1) due)) (map as_expr rest))) [] whole (suited_one (option_map go_type of, as_expr value)) c.suit_one.result
     c.in_ok-add.ensures.values c.in_ok-add.ensures.fault c.suit_one.ensures c.in_ok-add.ensures.given before
 
 pub returns : goal.returns
 returns c =
     let all = c.loop-value.all in
-    let due = map (option_map type_of) (drop c.loop-value.i c.args.due.now) in
+    let due = map (option_map go_type) (drop c.loop-value.i c.args.due.now) in
     let rest = c.loop-value.value-iterator.rest in
-    let whole = map suited_one (zip (map (option_map type_of) c.args.due.now) (map expr_of c.args.values.items)) in
+    let whole = map suited_one (zip (map (option_map go_type) c.args.due.now) (map as_expr c.args.values.items)) in
     let size : length rest.items ≡ 0 = omega (arith, rest.ok.0, c.in-None.ensures.steps.0) in
-    let none : zip due (map expr_of rest.items) ≡ [] = none_left due (map expr_of rest.items) (ap (map expr_of) (none_there rest.items size)) in
-    ends expr_of all.values.items all.fault [] whole _
-    (subst (λ (l : List (Option Type' × typed.Expr)). Leads expr_of all.values.items all.fault (map suited_one l) [] whole) none c.loop-value.invariant) c.finish-2.ensures
+    let none : zip due (map as_expr rest.items) ≡ [] = none_left due (map as_expr rest.items) (ap (map as_expr) (none_there rest.items size)) in
+    ends as_expr all.values.items all.fault [] whole _
+    (subst (λ (l : List (Option Type' × typed.Expr)). Leads as_expr all.values.items all.fault (map suited_one l) [] whole) none c.loop-value.invariant) c.finish-2.ensures

@@ -1,9 +1,9 @@
 use Rattle.std.proofs.Common.{◌≡◌, ◌++◌, drop, map}
 use Rattle.std.specs.Option.{option_map}
-use Rattle.go_types.specs.Views.{type_of}
-use Rattle.go_typed.specs.Views.{expr_of}
+use Rattle.go_types.specs.Views.{go_type}
+use Rattle.go_typed.specs.Views.{as_expr}
 use Rattle.go_expr.specs.Rules.{settled_type}
 use Rattle.go_stmt.proofs.values.types_in.Given as goal
 
 abbrev pub invariant-loop-value : goal.invariant-loop-value
-invariant-loop-value l = map (option_map type_of) l.all.items ++ map settled_type (map expr_of (drop l.value-index l.values)) ≡ map settled_type (map expr_of l.values)
+invariant-loop-value l = map (option_map go_type) l.all.items ++ map settled_type (map as_expr (drop l.value-index l.values)) ≡ map settled_type (map as_expr l.values)

@@ -2,7 +2,7 @@ use Rattle.std.proofs.Common.{List, map, drop, ap, ◌+◌}
 use Rattle.std.specs.Option.{option_map}
 use Rattle.go_ast.specs.Views.{var_of}
 use Rattle.go_ast.specs.declared.declaration.VarSpec.{VarSpec}
-use Rattle.go_stmt.specs.Seen.{context_of, env_of, typed_in}
+use Rattle.go_stmt.specs.Views.{context_of, env_of, typed_in}
 use Rattle.go_stmt.specs.Statements.{variables_at, specs_at}
 use Rattle.go_stmt.proofs.Defining.{answers_err}
 use Rattle.go_stmt.proofs.Leading.{goes_on, fails}

@@ -1,7 +1,7 @@
 use Rattle.std.proofs.Common.{drop, map}
 use Rattle.std.specs.Option.{option_map}
 use Rattle.go_ast.specs.Views.{var_of}
-use Rattle.go_stmt.specs.Seen.{context_of, env_of, typed_in}
+use Rattle.go_stmt.specs.Views.{context_of, env_of, typed_in}
 use Rattle.go_stmt.specs.Statements.{specs_at}
 use Rattle.go_stmt.proofs.Leading.{Leads}
 use Rattle.go_stmt.proofs.variables.check_specs.Given as goal

@@ -1,4 +1,4 @@
-use Rattle.std.proofs.Common.{◌≡◌, ◌+◌, ◌<◌, ◌++◌, List, [], map, drop, length, sym, ap, ◌∙◌, arith}
+use Rattle.std.proofs.Common.{◌≡◌, ◌+◌, ◌<◌, ◌++◌, List, map, drop, length, sym, ap, ◌∙◌, arith}
 use Rattle.go_ast.specs.Views.{var_of}
 use Rattle.go_scope.specs.Names.{used}
 use Rattle.go_scope.specs.declared.names.UsedName.{UsedName}

@@ -5,13 +5,13 @@ use Rattle.go_ast.specs.Views.{type_of, parameter_of, block_of, function_of}
 use Rattle.go_ast.specs.declared.expression.TypeExpr.{TypeExpr}
 use Rattle.go_ast.specs.declared.file.Parameter.{Parameter}
 use Rattle.go_scope.specs.Names.{Used, in_type, used}
-use Rattle.go_uses.specs.Uses.{texts, outside, in_block, in_function}
+use Rattle.go_uses.specs.Uses.{texts, outside, uses_in_block, in_function}
 use Rattle.go_uses.proofs.file.names_in_function.Goals as goal
 
 pub returns : goal.returns
 returns c =
     let f = c.args.function.now in
-    let inside = λ (l : List Parameter). outside (flat_map (λ (p : trees.Parameter). texts p.names) (map parameter_of l)) (in_block (block_of f.body)) in
+    let inside = λ (l : List Parameter). outside (flat_map (λ (p : trees.Parameter). texts p.names) (map parameter_of l)) (uses_in_block (block_of f.body)) in
     let parameters = c.in_ok-parameters.ensures ∙ ap (λ (l : List Parameter). flat_map (λ (p : trees.Parameter). in_type p.type) (map parameter_of l)) c.deref.ensures.value in
     let results = c.in_ok-results.ensures ∙ ap (λ (l : List TypeExpr). flat_map in_type (map type_of l)) c.deref-2.ensures.value in
     let body = c.in_ok-body.ensures ∙ ap inside c.deref-3.ensures.value in

@@ -1,5 +1,5 @@
 use Rattle.std.proofs.Common.{◌≡◌, ◌+◌, ◌<◌, ◌++◌, List, map, drop, length, sym, ap, ◌∙◌, arith}
-use Rattle.go_ast.specs.Trees.{pack_stmts}
+use Rattle.go_ast.specs.Trees.{pack_statements}
 use Rattle.go_ast.specs.Views.{stmt_of}
 use Rattle.go_ast.specs.declared.statement.Stmt.{Stmt}
 use Rattle.go_scope.specs.Names.{used}
@@ -10,7 +10,7 @@ use Rattle.go_uses.proofs.statements.+uses.Goals as goal
 
 pub in_list-loop-statement-init : goal.in_list-loop-statement-init
 in_list-loop-statement-init t c =
-    begins (map used c.new-found.result.items) c.new-hidden.result (in_list (pack_stmts (map stmt_of c.args.statements.now))) (ap (map used) c.new-found.ensures.items) c.new-hidden.ensures
+    begins (map used c.new-found.result.items) c.new-hidden.result (in_list (pack_statements (map stmt_of c.args.statements.now))) (ap (map used) c.new-found.ensures.items) c.new-hidden.ensures
 
 pub in_list-loop-statement-preserved : goal.in_list-loop-statement-preserved
 in_list-loop-statement-preserved t c =
@@ -22,7 +22,7 @@ in_list-loop-statement-preserved t c =
     let next = map used c.add_outside.new.found.items in
     let names = in_stmt (stmt_of s) in
     let own = stmt_names (stmt_of s) in
-    let all = λ (l : List Stmt). in_list (pack_stmts (map stmt_of l)) in
+    let all = λ (l : List Stmt). in_list (pack_statements (map stmt_of l)) in
     let within : i < length ss = omega arith in
     let splits : all (drop i ss) ≡ names ++ outside own (all (drop (i + 1) ss)) = ap all (left ss i s within c.statement-item.is) in
     let so_far : found ++ outside hidden (names ++ outside own (all (drop (i + 1) ss))) ≡ all ss = ap (λ l. found ++ outside hidden l) (sym splits) ∙ c.loop-statement.invariant in

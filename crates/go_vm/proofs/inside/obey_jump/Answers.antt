@@ -2,7 +2,7 @@ use Rattle.std.proofs.Common.{◌≡◌, ap, ◌∙◌}
 use Rattle.go_code.specs.declared.instr.JumpInstr.{JumpInstr}
 use Rattle.go_code.specs.declared.instr.JumpInstr.TheVariants.{JumpIf, JumpIfNot}
 use Rattle.go_code.specs.Machine.{jump_step}
-use Rattle.go_vm.specs.Told.{state_of}
+use Rattle.go_vm.specs.Flows.{state_of}
 use Rattle.go_vm.proofs.inside.obey_jump.Goals as goal
 
 pub returns-in-JumpIf : goal.returns-in-JumpIf

@@ -4,14 +4,14 @@ use Rattle.std.proofs.lemmas.Bool.{ltb-true}
 use Rattle.std.proofs.Math.Nat.{mul-le-mul_right}
 use Rattle.go_code.specs.declared.cell.Cell.TheVariants.{Int, Bool as Truth, Text, Slice}
 use Rattle.go_code.specs.declared.ending.PanicKind.TheVariants.{Index}
-use Rattle.go_code.specs.Parts.{picked, index_below, with_index}
+use Rattle.go_code.specs.Parts.{picked, index_below, bind_index}
 use Rattle.go_code.specs.Operators.{Operated, Gives, Panics, Senseless}
 use Rattle.go_code.specs.declared.cell.Cell.{Cell}
-use Rattle.go_cells.specs.Told.{told_index}
+use Rattle.go_cells.specs.Results.{operated_index}
 use Rattle.go_vm.proofs.Rows.{last_is, part_of_front}
 use Rattle.go_vm.proofs.inside.picked_index.Goals as goal
 
-index_same : (o : Operated ℕ) (count size : ℕ) (row : List Cell) → ((index : ℕ) → o ≡ Gives index → index * size + size ≤ count * size) → with_index o (λ index. Gives (take size (drop (index * size) (take (count * size) row)))) ≡ with_index o (λ index. Gives (take size (drop (index * size) row)))
+index_same : (o : Operated ℕ) (count size : ℕ) (row : List Cell) → ((index : ℕ) → o ≡ Gives index → index * size + size ≤ count * size) → bind_index o (λ index. Gives (take size (drop (index * size) (take (count * size) row)))) ≡ bind_index o (λ index. Gives (take size (drop (index * size) row)))
 index_same (Gives index) count size row within = ap Gives (part_of_front row (count * size) (index * size) size (within index refl))
 index_same (Panics kind) count size row within = refl
 index_same Senseless count size row within = refl
@@ -40,6 +40,6 @@ returns-clause-told c =
     let row = c.args.cells.now in
     let n = c.args.count * c.args.size in
     ap (picked c.args.count c.args.size (take n row)) (last_is row n c.index-cells-count.result c.requires c.index-cells-count.is)
-    ∙ ap (λ o. with_index o (λ index. Gives (take c.args.size (drop (index * c.args.size) (take n row))))) (sym c.index_below.ensures)
-    ∙ index_same (told_index c.index_below.result) c.args.count c.args.size row
+    ∙ ap (λ o. bind_index o (λ index. Gives (take c.args.size (drop (index * c.args.size) (take n row))))) (sym c.index_below.ensures)
+    ∙ index_same (operated_index c.index_below.result) c.args.count c.args.size row
     (λ index e. first_below c.args.count c.args.size c.index-cells-count.result index (sym c.index_below.ensures ∙ e))

@@ -2,7 +2,7 @@ use Rattle.std.proofs.Common.{◌∷◌, Some, ap, sym, ◌∙◌}
 use Rattle.std.proofs.lemmas.Result.{IfOk-weaker}
 use Rattle.go_code.specs.Machine.{act, past}
 use Rattle.go_vm.specs.Open.{Open, with_newest}
-use Rattle.go_vm.specs.Told.{state_of}
+use Rattle.go_vm.specs.Flows.{state_of}
 use Rattle.go_vm.proofs.Handed.{act_frames}
 use Rattle.go_vm.proofs.machine.one_step.Goals as goal
 

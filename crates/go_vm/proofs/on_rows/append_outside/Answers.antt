@@ -5,8 +5,8 @@ use Rattle.std.proofs.lemmas.Result.{IfOk-weaker}
 use Rattle.go_code.specs.declared.cell.Cell.{Cell}
 use Rattle.go_code.specs.Operators.{Gives}
 use Rattle.go_code.specs.Rows.{grown, row_of, zero_like}
-use Rattle.go_vm.specs.Open.{top_of}
-use Rattle.go_vm.specs.Told.{rows_of, state_of, with_new_row}
+use Rattle.go_vm.specs.Open.{topmost}
+use Rattle.go_vm.specs.Flows.{machine_rows, state_of, with_new_row}
 use Rattle.go_vm.proofs.Slices.{more_moved}
 use Rattle.go_vm.proofs.on_rows.append_outside.Goals as goal
 
@@ -18,9 +18,9 @@ returns c =
     let size = c.args.size in
     let whole = c.args.whole in
     let room = c.in-Some-grown.room in
-    let row : List Cell = row_of (rows_of w.rows.items) s.row in
-    let top : List Cell = top_of whole o.newest.stack in
-    let at : c.row_at-row.result.now ≡ row = c.row_at-row.ensures ∙ ap (λ (rows : List (Vec Cell)). row_of (rows_of rows) s.row) c.as_slice.ensures.value in
+    let row : List Cell = row_of (machine_rows w.rows.items) s.row in
+    let top : List Cell = topmost whole o.newest.stack in
+    let at : c.row_at-row.result.now ≡ row = c.row_at-row.ensures ∙ ap (λ (rows : List (Vec Cell)). row_of (machine_rows rows) s.row) c.as_slice.ensures.value in
     let first : c.in-Some-cells_of.first ≡ s.start * size = omega (arith, c.in-Some-cells_of.ensures) in
     let cells : c.in-Some-cells_of-2.cells ≡ s.length * size = omega (arith, c.in-Some-cells_of-2.ensures) in
     let there : s.start * size + s.length * size ≤ length row = omega (arith, first, cells, c.in-Some-end_in.ensures, ap length at) in

@@ -1,4 +1,4 @@
-use Rattle.std.proofs.Common.{◌≡◌, ◌+◌, ◌≤◌, ◌<◌, length, refl, ap, arith}
+use Rattle.std.proofs.Common.{◌+◌, ◌≤◌, ◌<◌, length, refl, ap, arith}
 use Rattle.go_flat.proofs.OfSlices.{row_there}
 use Rattle.go_vm.proofs.Slices.{put_there}
 use Rattle.go_vm.proofs.on_rows.store_cells.Goals as goal

@@ -3,7 +3,7 @@ use Rattle.go_code.specs.declared.image.Start.{Start}
 use Rattle.go_code.specs.Finals.{Final}
 use Rattle.go_code.specs.Machine.{Leads}
 use Rattle.go_code.proofs.Ends.{steps_left}
-use Rattle.go_vm.specs.Told.{state_of}
+use Rattle.go_vm.specs.Flows.{state_of}
 use Rattle.go_vm.proofs.run.finish.Given as goal
 
 -- what these frames lead to, the frames at the entry lead to

@@ -3,7 +3,7 @@ use Rattle.std.proofs.lemmas.List.{drop_all}
 use Rattle.go_code.specs.Finals.{Ends, BadCode}
 use Rattle.go_code.proofs.Follows.{ended_leads}
 use Rattle.go_code.specs.Machine.{Leads}
-use Rattle.go_vm.specs.Told.{between}
+use Rattle.go_vm.specs.Flows.{between}
 use Rattle.go_vm.specs.declared.machine.Exit.TheVariants.{Ends as Is_over, BadCode as Is_nonsense}
 use Rattle.go_vm.proofs.Coming.{comes_round, comes_away}
 use Rattle.go_vm.proofs.run.run_starts.Goals as goal

@@ -1,7 +1,7 @@
 use Rattle.std.proofs.Common.{drop}
 use Rattle.go_code.specs.Finals.{Final}
 use Rattle.go_code.specs.Machine.{Leads}
-use Rattle.go_vm.specs.Told.{between}
+use Rattle.go_vm.specs.Flows.{between}
 use Rattle.go_vm.proofs.run.run_starts.Given as goal
 
 -- what the start steps still to come lead to is what all of them lead to

@@ -8,7 +8,7 @@ use Rattle.goset_cli.proofs.keeping.begin.Goals as goal
 pub returns-in_err-bytes-clause-refused : goal.returns-in_err-bytes-clause-refused
 returns-in_err-bytes-clause-refused g c = λ written.
     let p = err_from_is_err_and c.from_residual.result c.from_residual.ensures.1 in
-    begun_unread _ _ _ _ _ _ written _ (p.1 ∙ ap Err p.2) c.in_err-bytes.ensures.told
+    begun_unread _ _ _ _ _ _ written _ (p.1 ∙ ap Err p.2) c.in_err-bytes.ensures.was_read
 
 pub returns-in_err-bytes-clause-reads : goal.returns-in_err-bytes-clause-reads
 returns-in_err-bytes-clause-reads g c =
@@ -38,7 +38,7 @@ returns-in_err-script-clause-writes g c =
 pub returns-in_err-kept-clause-refused : goal.returns-in_err-kept-clause-refused
 returns-in_err-kept-clause-refused g c = λ written.
     let p = err_from_is_err_and c.from_residual-in_err-kept.result c.from_residual-in_err-kept.ensures.1 in
-    begun_unloaded _ _ _ _ _ _ written _ _ (p.1 ∙ ap Err p.2) c.in_err-kept.ensures.refused c.in_ok-bytes.ensures.told
+    begun_unloaded _ _ _ _ _ _ written _ _ (p.1 ∙ ap Err p.2) c.in_err-kept.ensures.refused c.in_ok-bytes.ensures.was_read
 
 pub returns-in_err-kept-clause-reads : goal.returns-in_err-kept-clause-reads
 returns-in_err-kept-clause-reads g c =
@@ -56,7 +56,7 @@ returns-then-is_full-clause-refused g c = λ written.
     omega (arith, c.len.ensures, c.len-2.ensures, c.in_ok-kept.kept.ok.0, c.in_ok-script.script.ok.0, c.if-is_full.true) in (
       c.in_ok-kept.kept.items,
       c.in_ok-bytes.bytes.items,
-      (c.in_ok-kept.ensures.loaded, c.in_ok-kept.ensures.expected, c.in_ok-bytes.ensures.told),
+      (c.in_ok-kept.ensures.loaded, c.in_ok-kept.ensures.expected, c.in_ok-bytes.ensures.was_read),
       subst (λ (s : List ℕ). limit < length c.in_ok-kept.kept.items + length s + 2) c.in_ok-script.ensures long,
       stays written,
     )
@@ -66,7 +66,7 @@ returns-then-is_full-clause-reads g c = omega (arith, c.in_ok-bytes.ensures.fail
 
 pub returns-clause-begins : goal.returns-clause-begins
 returns-clause-begins g c =
-    (c.in_ok-bytes.bytes.items, c.in_ok-script.ensures, (c.in_ok-kept.ensures.loaded, c.in_ok-kept.ensures.expected, c.in_ok-bytes.ensures.told))
+    (c.in_ok-bytes.bytes.items, c.in_ok-script.ensures, (c.in_ok-kept.ensures.loaded, c.in_ok-kept.ensures.expected, c.in_ok-bytes.ensures.was_read))
 
 pub returns-clause-reads : goal.returns-clause-reads
 returns-clause-reads g c = omega (arith, c.in_ok-bytes.ensures.failed)

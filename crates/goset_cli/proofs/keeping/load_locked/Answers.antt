@@ -1,7 +1,7 @@
 use Rattle.std.proofs.Common.{◌∙◌, ap, subst, Err, List, ℕ, Option, option_map}
 use Rattle.std.specs.Prelude.{IfErr, IfOk}
 use Rattle.std.proofs.lemmas.Result.{err_from_is_err_and}
-use Rattle.ws_keep.specs.Stored.{Holds}
+use Rattle.ws_keep.specs.Stored.{StoreHolds}
 use Rattle.goset_cli.specs.KeptRuns.{NotLoaded}
 use Rattle.goset_cli.proofs.keeping.load_locked.Goals as goal
 
@@ -13,7 +13,7 @@ returns-in_err-lock-clause-refused g c =
 
 pub returns-clause-loaded : goal.returns-clause-loaded
 returns-clause-loaded g c =
-    subst (λ (s : List ℕ → Option (List ℕ)). IfOk c.load.result (λ kept. Holds (s c.args.options.now.name.now) kept.items)) c.lock.ensures.still c.load.ensures.loaded
+    subst (λ (s : List ℕ → Option (List ℕ)). IfOk c.load.result (λ kept. StoreHolds (s c.args.options.now.name.now) kept.items)) c.lock.ensures.still c.load.ensures.loaded
 
 pub returns-clause-still : goal.returns-clause-still
 returns-clause-still g c = c.load.ensures.still ∙ c.lock.ensures.still

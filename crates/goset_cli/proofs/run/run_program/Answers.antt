@@ -2,7 +2,7 @@ use Rattle.std.proofs.Common.{ap, ◌∙◌, sym, map, inl, inr, Result}
 use Rattle.clap.specs.Values.{kind_of}
 use Rattle.goset_cli.specs.CommandLine.{run_faults}
 use Rattle.goset_cli.specs.Runs.{run_code_of}
-use Rattle.goset_cli.specs.Statuses.{FailsByKind, Tells, complaint}
+use Rattle.goset_cli.specs.Statuses.{FailsByKind, WritesOut, error_line}
 use Rattle.goset_cli.specs.declared.running.SessionError.{SessionError}
 use Rattle.goset_cli.specs.declared.status.Status.{Status}
 use Rattle.goset_cli.proofs.Outcomes.{error_asked, error_wrong, memory_ended, on_done, on_failed, on_misused}
@@ -74,5 +74,5 @@ returns-in-Err-clause-failed g c = λ is.
     let written = g.E.ScriptOut.written in
     told_failure (failures c.args.errors.now) (failures c.explain.new.errors) (written c.args.errors.now) (written c.explain.new.errors) f.0
     (on_failed (FailsByKind (kind_of c.in-Err.error)) c.explain.result f.0 f.1 c.explain.ensures.fails)
-    (on_failed (λ failure. Tells (complaint failure) (failures c.args.errors.now) (failures c.explain.new.errors) (written c.args.errors.now) (written c.explain.new.errors))
+    (on_failed (λ failure. WritesOut (error_line failure) (failures c.args.errors.now) (failures c.explain.new.errors) (written c.args.errors.now) (written c.explain.new.errors))
     c.explain.result f.0 f.1 c.explain.ensures.tells)

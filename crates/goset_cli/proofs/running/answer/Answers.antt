@@ -1,7 +1,7 @@
 use Rattle.std.proofs.Common.{arith, ap, refl, subst, take, List, ℕ}
-use Rattle.ws_command.specs.Seen.{seen}
+use Rattle.ws_command.specs.Views.{command_view}
 use Rattle.ws_keep.specs.Keeping.{kept_lines}
-use Rattle.goset_cli.specs.Told.{Grows}
+use Rattle.goset_cli.specs.Streams.{GrowsBy}
 use Rattle.ws_session.proofs.SomeText.{some_text_from}
 use Rattle.goset_cli.proofs.Growth.{grows_by}
 use Rattle.goset_cli.proofs.Journals.{all_so_far, more_so_far, none_so_far, part_so_far, some_so_far}
@@ -42,7 +42,7 @@ returns-in_err-write_whole-clause-err g c = on_refusal c.from_residual-in_err-wr
     let printed = ran.2 (clear ran.0 (first_reaches first so_far.leads ran.0 ran.1)) in
     let told : List ℕ = c.in_ok-told.told.items in
     let some = c.in_err-write_whole.ensures.err in
-    let wrote : Grows (written c.commands.writer) (written c.write_whole.new.writer) (take some.0 told) =
+    let wrote : GrowsBy (written c.commands.writer) (written c.write_whole.new.writer) (take some.0 told) =
     grows_by _ _ _ _ (ap (λ (t : List ℕ). take some.0 t) c.as_slice.ensures.value) some.1 in
     part_so_far (some_text_from c.law_held_program_means_its_sources.ensures.ends) so_far first told some.0 _ printed.0 wrote)
 
@@ -55,10 +55,10 @@ commands-preserved g c = record {
       let first = c.in_ok-asked.ensures.first in
       let printed = ran.2 (clear ran.0 (first_reaches first so_far.leads ran.0 ran.1)) in
       let told : List ℕ = c.in_ok-told.told.items in
-      let wrote : Grows (written c.commands.writer) (written c.write_whole.new.writer) told = grows_by _ _ _ _ c.as_slice.ensures.value c.in_ok-write_whole.ensures.ok in
+      let wrote : GrowsBy (written c.commands.writer) (written c.write_whole.new.writer) told = grows_by _ _ _ _ c.as_slice.ensures.value c.in_ok-write_whole.ensures.ok in
       let taken = g.J.Journal.taken in
-      let entered : Grows (taken c.commands.journal) (taken c.enter.new.journal) (kept_lines (seen c.in_ok-asked.field-0.asked) told c.in_ok-asked.field-0.lines.now) =
-      subst (λ (t : List ℕ). Grows (taken c.commands.journal) (taken c.enter.new.journal) (kept_lines (seen c.in_ok-asked.field-0.asked) t c.in_ok-asked.field-0.lines.now))
+      let entered : GrowsBy (taken c.commands.journal) (taken c.enter.new.journal) (kept_lines (command_view c.in_ok-asked.field-0.asked) told c.in_ok-asked.field-0.lines.now) =
+      subst (λ (t : List ℕ). GrowsBy (taken c.commands.journal) (taken c.enter.new.journal) (kept_lines (command_view c.in_ok-asked.field-0.asked) t c.in_ok-asked.field-0.lines.now))
       c.deref.ensures.value c.in_ok-enter.ensures in
       more_so_far so_far first c.in_ok-asked.ensures.some ran.0 told _ _ _ ran.1 printed.0 printed.1 wrote entered;
   no_failure = omega (arith, c.in_ok-write_whole.ensures.failed, c.commands.invariant.no_failure);
@@ -73,10 +73,10 @@ commands-preserved-in_ok-write_whole g c = record {
       let first = c.in_ok-asked.ensures.first in
       let printed = ran.2 (clear ran.0 (first_reaches first so_far.leads ran.0 ran.1)) in
       let told : List ℕ = c.in_ok-told.told.items in
-      let wrote : Grows (written c.commands.writer) (written c.write_whole.new.writer) told = grows_by _ _ _ _ c.as_slice.ensures.value c.in_ok-write_whole.ensures.ok in
+      let wrote : GrowsBy (written c.commands.writer) (written c.write_whole.new.writer) told = grows_by _ _ _ _ c.as_slice.ensures.value c.in_ok-write_whole.ensures.ok in
       let taken = g.J.Journal.taken in
-      let entered : Grows (taken c.commands.journal) (taken c.enter.new.journal) (kept_lines (seen c.in_ok-asked.field-0.asked) told c.in_ok-asked.field-0.lines.now) =
-      subst (λ (t : List ℕ). Grows (taken c.commands.journal) (taken c.enter.new.journal) (kept_lines (seen c.in_ok-asked.field-0.asked) t c.in_ok-asked.field-0.lines.now))
+      let entered : GrowsBy (taken c.commands.journal) (taken c.enter.new.journal) (kept_lines (command_view c.in_ok-asked.field-0.asked) told c.in_ok-asked.field-0.lines.now) =
+      subst (λ (t : List ℕ). GrowsBy (taken c.commands.journal) (taken c.enter.new.journal) (kept_lines (command_view c.in_ok-asked.field-0.asked) t c.in_ok-asked.field-0.lines.now))
       c.deref.ensures.value c.in_ok-enter.ensures in
       more_so_far so_far first c.in_ok-asked.ensures.some ran.0 told _ _ _ ran.1 printed.0 printed.1 wrote entered;
   no_failure = omega (arith, c.in_ok-write_whole.ensures.failed, c.commands.invariant.no_failure);

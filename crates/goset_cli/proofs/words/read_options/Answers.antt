@@ -3,7 +3,7 @@ use Rattle.std.specs.Prelude.{unwrap_or}
 use Rattle.std.specs.Str.Parse.{ParsesUnsigned, ExplainsUnsignedError, HasUnsignedDigitsIfOk}
 use Rattle.clap.specs.Simple.{App}
 use Rattle.clap.specs.Faults.{fault_of, is_simple_and_free}
-use Rattle.goset_cli.specs.CommandLine.{edition_at, goset, number_of, workers_of}
+use Rattle.goset_cli.specs.CommandLine.{edition_at, goset, option_number, workers_of}
 use Rattle.goset_cli.proofs.Numbers.{number_read, workers_option, edition_option}
 use Rattle.goset_cli.proofs.words.read_options.Goals as goal
 
@@ -14,7 +14,7 @@ workers_read g c = number_read goset (codes "workers") 64 0 workers_option refl 
     (λ bs r. ParsesUnsigned 8 10 bs r × ExplainsUnsignedError 10 bs r × HasUnsignedDigitsIfOk bs r) c.get_one.result
     c.get_one.ensures.none c.get_one.ensures.value (λ u x h. h.0)
 
-edition_read : (g : _) (c : goal.Joined-matches g) → unwrap_or c.get_one-2.result 1 ≡ number_of goset (codes "edition") 1 (map g.S.AsStr.text c.args.words.now)
+edition_read : (g : _) (c : goal.Joined-matches g) → unwrap_or c.get_one-2.result 1 ≡ option_number goset (codes "edition") 1 (map g.S.AsStr.text c.args.words.now)
 edition_read g c =
     let read = number_read goset (codes "edition") 2 1 edition_option refl refl 1 (omega arith) (omega arith) (omega arith) c.in_ok-program.program c.in_ok-matches.matches (map g.S.AsStr.text c.args.words.now) c.in_ok-matches.ensures.parsed
     c.in_ok-program.ensures.app c.in_ok-program.ensures.plain c.in_ok-matches.ensures.matches _

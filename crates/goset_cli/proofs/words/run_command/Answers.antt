@@ -7,13 +7,13 @@ use Rattle.std.proofs.lemmas.List.Elements.{All-nil}
 use Rattle.clap.specs.Facts.{args_of, groups_of}
 use Rattle.clap.specs.Built.{IsPlain, IsPlainArg}
 use Rattle.clap.proofs.CallerLemmas.{added_plain}
-use Rattle.goset_cli.specs.CommandLine.{all_ticks, valued, versioned}
+use Rattle.goset_cli.specs.CommandLine.{all_ticks, value_option, versioned}
 use Rattle.goset_cli.proofs.words.run_command.Goals as goal
 
 pub returns : goal.returns
 returns c =
     let any : c.value_parser.result ≡ Unsigned 0 all_ticks = search rules in
-    let ticks_is = c.option-ticks.ensures.rule ∙ ap (valued (codes "ticks")) any in
+    let ticks_is = c.option-ticks.ensures.rule ∙ ap (value_option (codes "ticks")) any in
     let named = ap app_of_fields c.in_ok-bin_name.ensures.0 ∙ c.new.ensures.app in
     let start_is : app_of c.about.result ≡ versioned (codes "goset") =
     ap app_of_fields c.about.ensures ∙ (ap app_of_fields c.version.ensures ∙ ap (on_top (λ top. record top { has_version = true })) named) in

@@ -1,14 +1,14 @@
 use Rattle.std.proofs.Common.{rules, ap, ◌∙◌, ◌≡◌, codes}
 use Rattle.std.specs.Prelude.{pos}
 use Rattle.clap.specs.declared.builder.value_parser.ValueParser.TheVariants.{Signed}
-use Rattle.goset_cli.specs.CommandLine.{valued}
+use Rattle.goset_cli.specs.CommandLine.{value_option}
 use Rattle.goset_cli.proofs.words.workers_option.Goals as goal
 
 pub returns : goal.returns
 returns c =
     let most_64 : c.range.result ≡ Signed (pos 1) (pos 64) = rw (c.value_parser.ensures, c.new.ensures.start, c.new.ensures.end) at c.range.ensures in
     record {
-      rule = c.option.ensures.rule ∙ ap (valued (codes "workers")) most_64;
+      rule = c.option.ensures.rule ∙ ap (value_option (codes "workers")) most_64;
       plain = search rules;
       local = search rules;
     }

@@ -1,6 +1,6 @@
 use Rattle.std.proofs.Common.{rules, map, ap, subst, ◌∙◌}
 use Rattle.std.specs.Arc.{arc_value}
-use Rattle.ws_action.specs.Actions.{import_of, AreSized}
+use Rattle.ws_action.specs.Actions.{named_summary, AreSized}
 use Rattle.ws_action.proofs.Imports.{named_imports}
 use Rattle.ws_action.proofs.Action.new.Goals as goal
 
@@ -8,5 +8,5 @@ pub returns-clause-sized : goal.returns-clause-sized
 returns-clause-sized c = record {
   path = search rules;
   files = search rules;
-  imports = subst AreSized (ap (map (λ s. import_of (arc_value s))) c.deref-4.ensures.value ∙ named_imports c.args.imports.items) c.measure-2.ensures;
+  imports = subst AreSized (ap (map (λ s. named_summary (arc_value s))) c.deref-4.ensures.value ∙ named_imports c.args.imports.items) c.measure-2.ensures;
 }

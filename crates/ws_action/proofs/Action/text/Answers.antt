@@ -4,7 +4,7 @@ use Rattle.std.specs.Arc.{arc_value}
 use Rattle.std.specs.Fmt.{decimal}
 use Rattle.go_text.specs.Editions.{edition_number}
 use Rattle.go_export.specs.Fields.{field}
-use Rattle.ws_action.specs.Actions.{Action, import_of, list_text, action_text}
+use Rattle.ws_action.specs.Actions.{Action, named_summary, list_text, action_text}
 use Rattle.ws_action.proofs.Imports.{named_imports}
 use Rattle.ws_action.proofs.Action.text.Goals as goal
 
@@ -18,7 +18,7 @@ pub returns : goal.returns
 returns c =
     let before = c.push.new.text.items in
     let own = c.self.inside.imports.items in
-    let fifth : c.push_parts.new.text.items ≡ before ++ list_text (map (λ s. import_of (arc_value s)) own) = search rules in
+    let fifth : c.push_parts.new.text.items ≡ before ++ list_text (map (λ s. named_summary (arc_value s)) own) = search rules in
     subst (λ a. c.push_parts.new.text.items ≡ action_text a) c.self.view_is
     (in_parts _ c.push_field.new.text.items c.push_field-2.new.text.items c.push_field-3.new.text.items before c.push_parts.new.text.items
     (search rules) (search rules) (search rules) (search rules) (fifth ∙ ap (λ ns. before ++ list_text ns) (named_imports own)))

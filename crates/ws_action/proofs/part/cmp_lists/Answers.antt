@@ -4,7 +4,7 @@ use Rattle.std.specs.declared.cmp.Ordering.{Ordering}
 use Rattle.std.specs.declared.cmp.Ordering.TheVariants.{Equal}
 use Rattle.std.specs.Ordering.{ordering_then}
 use Rattle.std.specs.Cmp.Lexicographic.{slice_cmp}
-use Rattle.ws_action.specs.Actions.{Named, import_cmp, import_of}
+use Rattle.ws_action.specs.Actions.{Named, import_cmp, named_summary}
 use Rattle.ws_action.proofs.Imports.{named_imports}
 use Rattle.ws_action.proofs.part.cmp_lists.Goals as goal
 
@@ -17,7 +17,7 @@ returns-in-Equal g c =
     let own = c.args.imports.now in
     let others = c.args.other_imports.now in
     let files : Equal ≡ slice_cmp g.P.Part.order (map g.P.Part.named c.args.files.now) (map g.P.Part.named c.args.other_files.now) = search rules in
-    let inside : c.cmp_parts-in-Equal.result ≡ slice_cmp import_cmp (map (λ s. import_of (arc_value s)) own) (map (λ s. import_of (arc_value s)) others) = search rules in
-    tied _ (slice_cmp import_cmp (map import_of (map arc_value own)) (map import_of (map arc_value others))) c.cmp_parts-in-Equal.result files
-    (inside ∙ ap (λ (ns : List Named). slice_cmp import_cmp ns (map (λ s. import_of (arc_value s)) others)) (named_imports own)
-    ∙ ap (λ (ns : List Named). slice_cmp import_cmp (map import_of (map arc_value own)) ns) (named_imports others))
+    let inside : c.cmp_parts-in-Equal.result ≡ slice_cmp import_cmp (map (λ s. named_summary (arc_value s)) own) (map (λ s. named_summary (arc_value s)) others) = search rules in
+    tied _ (slice_cmp import_cmp (map named_summary (map arc_value own)) (map named_summary (map arc_value others))) c.cmp_parts-in-Equal.result files
+    (inside ∙ ap (λ (ns : List Named). slice_cmp import_cmp ns (map (λ s. named_summary (arc_value s)) others)) (named_imports own)
+    ∙ ap (λ (ns : List Named). slice_cmp import_cmp (map named_summary (map arc_value own)) ns) (named_imports others))

@@ -6,11 +6,11 @@ use Rattle.ws_action.specs.Actions.{Action, action_id}
 use Rattle.ws_cache.specs.Joined.{lesser}
 use Rattle.ws_board.specs.declared.work.Event.TheVariants.{Finish}
 use Rattle.ws_board.specs.declared.index.Ready.{Ready as AReady}
-use Rattle.ws_board.specs.Work.{Job, Entries, Opening, State, Seen}
-use Rattle.ws_board.specs.Machine.{Held, is_running, IsMarked, IsRunWith, Finishes, BoardStep, IsHistory}
-use Rattle.ws_board.specs.Carrying.{held_with}
+use Rattle.ws_board.specs.Work.{Job, Entries, Opening, BoardState, Seen}
+use Rattle.ws_board.specs.Machine.{Holdings, is_running, IsMarked, IsRunWith, Finishes, BoardStep, IsHistory}
+use Rattle.ws_board.specs.Propagation.{held_with}
 use Rattle.ws_board.specs.Rows.{those_of, import_count, is_back, FinishesRows, KnowsBacks}
-use Rattle.ws_board.specs.Table.{standings_of}
+use Rattle.ws_board.specs.Table.{job_states_of}
 use Rattle.ws_board.specs.Indexes.{jobs_in, is_free_in, is_released, Agrees}
 use Rattle.ws_board.proofs.Histories.{history_more, finish_step}
 use Rattle.ws_board.proofs.Own.{own_finish}
@@ -54,7 +54,7 @@ pub end-requires : goal.end-requires
 end-requires c =
     let b = c.self.inside in
     let R = b.rows.rows in
-    let by : IsRunWith (standings_of R) c.args.hand.now c.args.task.job (action_id c.args.task.action) = subst (λ (v : Seen). IsRunWith v.state.standings c.args.hand.now c.args.task.job (action_id c.args.task.action)) (sym c.self.view_is) c.requires.runs in
+    let by : IsRunWith (job_states_of R) c.args.hand.now c.args.task.job (action_id c.args.task.action) = subst (λ (v : Seen). IsRunWith v.state.standings c.args.hand.now c.args.task.job (action_id c.args.task.action)) (sym c.self.view_is) c.requires.runs in
     omega (arith, c.finish_rows.ensures.same.running, c.self.invariant.3.running, runs_some R c.args.hand.now c.args.task.job (run_row R c.args.hand.now c.args.task.job by.action by.run).0)
 
 pub release-requires : goal.release-requires
@@ -80,22 +80,22 @@ invariant_of-self-2 c =
     let new = c.finish_rows.new.rows in
     let N = new.rows in
     let ready = c.finish_rows.new.moves.ready.items in
-    let h : Held = held_with b.opened b.added (Some entry) in
+    let h : Holdings = held_with b.opened b.added (Some entry) in
     let all = c.push_reserved.new.self.items in
     let added = c.put.new.self in
     let y = c.release.new.self in
     let opening : Opening = record { jobs = J; cache = b.opened } in
-    let old : State = record { standings = standings_of b.rows.rows; added = b.added } in
-    let now : State = record { standings = standings_of N; added = added } in
+    let old : BoardState = record { standings = job_states_of b.rows.rows; added = b.added } in
+    let now : BoardState = record { standings = job_states_of N; added = added } in
     let by : IsRunWith old.standings hand job (action_id c.args.task.action) = subst (λ (v : Seen). IsRunWith v.state.standings hand job (action_id c.args.task.action)) (sym c.self.view_is) c.requires.runs in
     let action : Action = by.action in
     let done : FinishesRows h id good b.rows new ready = c.in-Ok.ensures.ok in
     let keeps : KeepsIn opening old = history_keeps opening b.history.items old c.self.invariant.0 in
     let carried = finish_carried h id good b.rows new ready done in
-    let marked = subst (λ i. IsMarked i good old.standings (standings_of done.marked)) (c.id-id.ensures ∙ sym by.its) (finish_marked h id good b.rows new ready done) in
-    let ends : Finishes opening old hand job action entry (record { standings = standings_of N; added = taken lesser b.added (action_id entry) entry }) =
-    finish_step opening old hand job action entry good (standings_of done.marked) (standings_of N) keeps by.run (c.requires.fits ∙ sym by.its) c.is_good.ensures marked carried in
-    let fin : Finishes opening old hand job action entry now = subst (λ (m : Entries). Finishes opening old hand job action entry (record { standings = standings_of N; added = m })) (sym c.in_default-put.ensures.ok) ends in
+    let marked = subst (λ i. IsMarked i good old.standings (job_states_of done.marked)) (c.id-id.ensures ∙ sym by.its) (finish_marked h id good b.rows new ready done) in
+    let ends : Finishes opening old hand job action entry (record { standings = job_states_of N; added = taken lesser b.added (action_id entry) entry }) =
+    finish_step opening old hand job action entry good (job_states_of done.marked) (job_states_of N) keeps by.run (c.requires.fits ∙ sym by.its) c.is_good.ensures marked carried in
+    let fin : Finishes opening old hand job action entry now = subst (λ (m : Entries). Finishes opening old hand job action entry (record { standings = job_states_of N; added = m })) (sym c.in_default-put.ensures.ok) ends in
     let step : BoardStep opening old (Finish hand job) now = (action, entry, fin) in
     let pushed : all ≡ b.history.items ++ Finish hand job ∷ [] =
     c.push_reserved.ensures.items ∙ ap (λ (k : ℕ). b.history.items ++ Finish k c.spend.result ∷ []) c.number.ensures ∙ ap (λ (j : ℕ). b.history.items ++ Finish hand j ∷ []) c.spend.ensures in
@@ -108,7 +108,7 @@ invariant_of-self-2 c =
     c.release.ensures.len c.release.ensures.running in
     let paid = finish_paid h id good b.rows new ready done b.looks c.finish_rows.new.looks (import_count J) b.history.items all hand job pushed c.in-Ok.ensures.more c.in-Ok.ensures.paid c.self.invariant.5 in
     let parts =
-    moved J new.jobs.items I new.importers.items N b.opened added all (standings_of N) c.finish_rows.new.looks (count_by is_back all) c.finish_rows.ensures.undone.jobs c.finish_rows.ensures.undone.importers refl
+    moved J new.jobs.items I new.importers.items N b.opened added all (job_states_of N) c.finish_rows.new.looks (count_by is_back all) c.finish_rows.ensures.undone.jobs c.finish_rows.ensures.undone.importers refl
     legal done.good done.waits paid in (
       parts.0,
       parts.1,
@@ -147,7 +147,7 @@ invariant_of-self c =
       index_still R N b.index c.finish_rows.new.index rows c.self.invariant.3 c.in_default.ensures.still c.finish_rows.ensures.same,
       subst (λ r. KnowsBacks r b.history.items) (sym rows) c.self.invariant.4,
       parts.3,
-      subst (λ r. vec_len b.history + count_by is_running (standings_of r).statuses ≤ vec_capacity b.history) (sym rows) c.self.invariant.6,
+      subst (λ r. vec_len b.history + count_by is_running (job_states_of r).statuses ≤ vec_capacity b.history) (sym rows) c.self.invariant.6,
     )
 
 pub returns-in_default-clause-err : goal.returns-in_default-clause-err
@@ -181,7 +181,7 @@ invariant_of-self-in-Err c =
           (c.expel.ensures.jobs i ∙ ap (λ l. jobs_in c.expel.new.self i ++ those_of i l) c.ready.ensures)) (same_then b.index c.finish_rows.new.index c.expel.new.self c.finish_rows.ensures.same c.expel.ensures.same),
       subst (λ r. KnowsBacks r b.history.items) (sym rows) c.self.invariant.4,
       parts.3,
-      subst (λ r. vec_len b.history + count_by is_running (standings_of r).statuses ≤ vec_capacity b.history) (sym rows) c.self.invariant.6,
+      subst (λ r. vec_len b.history + count_by is_running (job_states_of r).statuses ≤ vec_capacity b.history) (sym rows) c.self.invariant.6,
     )
 
 pub returns-in-Err-clause-err : goal.returns-in-Err-clause-err
@@ -210,20 +210,20 @@ returns-clause-step c =
     let new = c.finish_rows.new.rows in
     let N = new.rows in
     let ready = c.finish_rows.new.moves.ready.items in
-    let h : Held = held_with b.opened b.added (Some entry) in
+    let h : Holdings = held_with b.opened b.added (Some entry) in
     let all = c.push_reserved.new.self.items in
     let opening : Opening = record { jobs = J; cache = b.opened } in
-    let old : State = record { standings = standings_of b.rows.rows; added = b.added } in
-    let now : State = record { standings = standings_of N; added = c.put.new.self } in
+    let old : BoardState = record { standings = job_states_of b.rows.rows; added = b.added } in
+    let now : BoardState = record { standings = job_states_of N; added = c.put.new.self } in
     let by : IsRunWith old.standings hand job (action_id c.args.task.action) = subst (λ (v : Seen). IsRunWith v.state.standings hand job (action_id c.args.task.action)) (sym c.self.view_is) c.requires.runs in
     let action : Action = by.action in
     let done : FinishesRows h id good b.rows new ready = c.in-Ok.ensures.ok in
     let keeps : KeepsIn opening old = history_keeps opening b.history.items old c.self.invariant.0 in
     let carried = finish_carried h id good b.rows new ready done in
-    let marked = subst (λ i. IsMarked i good old.standings (standings_of done.marked)) (c.id-id.ensures ∙ sym by.its) (finish_marked h id good b.rows new ready done) in
-    let ends : Finishes opening old hand job action entry (record { standings = standings_of N; added = taken lesser b.added (action_id entry) entry }) =
-    finish_step opening old hand job action entry good (standings_of done.marked) (standings_of N) keeps by.run (c.requires.fits ∙ sym by.its) c.is_good.ensures marked carried in
-    let fin : Finishes opening old hand job action entry now = subst (λ (m : Entries). Finishes opening old hand job action entry (record { standings = standings_of N; added = m })) (sym c.in_default-put.ensures.ok) ends in
+    let marked = subst (λ i. IsMarked i good old.standings (job_states_of done.marked)) (c.id-id.ensures ∙ sym by.its) (finish_marked h id good b.rows new ready done) in
+    let ends : Finishes opening old hand job action entry (record { standings = job_states_of N; added = taken lesser b.added (action_id entry) entry }) =
+    finish_step opening old hand job action entry good (job_states_of done.marked) (job_states_of N) keeps by.run (c.requires.fits ∙ sym by.its) c.is_good.ensures marked carried in
+    let fin : Finishes opening old hand job action entry now = subst (λ (m : Entries). Finishes opening old hand job action entry (record { standings = job_states_of N; added = m })) (sym c.in_default-put.ensures.ok) ends in
     let pushed : all ≡ b.history.items ++ Finish hand job ∷ [] =
     c.push_reserved.ensures.items ∙ ap (λ (k : ℕ). b.history.items ++ Finish k c.spend.result ∷ []) c.number.ensures ∙ ap (λ (j : ℕ). b.history.items ++ Finish hand j ∷ []) c.spend.ensures in
     rw (← c.self.view_is) (record {
@@ -237,8 +237,8 @@ returns-clause-own c =
     let b = c.self.inside in
     let opening : Opening = record { jobs = b.rows.jobs.items; cache = b.opened } in
     let later : Opening = record { jobs = c.finish_rows.new.rows.jobs.items; cache = b.opened } in
-    let old : State = record { standings = standings_of b.rows.rows; added = b.added } in
-    let new : State = record { standings = standings_of c.finish_rows.new.rows.rows; added = c.put.new.self } in
+    let old : BoardState = record { standings = job_states_of b.rows.rows; added = b.added } in
+    let new : BoardState = record { standings = job_states_of c.finish_rows.new.rows.rows; added = c.put.new.self } in
     let before : Seen = record { opening = opening; state = old; history = b.history.items; looks = b.looks } in
     let after : Seen = record { opening = later; state = new; history = c.push_reserved.new.self.items; looks = c.finish_rows.new.looks } in
     rw (← c.self.view_is) (own_finish before after c.args.entry
@@ -255,7 +255,7 @@ returns-clause-looks c =
     let J = b.rows.jobs.items in
     let new = c.finish_rows.new.rows in
     let ready = c.finish_rows.new.moves.ready.items in
-    let h : Held = held_with b.opened b.added (Some c.args.entry) in
+    let h : Holdings = held_with b.opened b.added (Some c.args.entry) in
     let all = c.push_reserved.new.self.items in
     let done : FinishesRows h id good b.rows new ready = c.in-Ok.ensures.ok in
     let pushed : all ≡ b.history.items ++ Finish hand job ∷ [] =

@@ -4,12 +4,12 @@ use Rattle.std.specs.List.{All, sum_by}
 use Rattle.std.proofs.lemmas.List.{length-replicate}
 use Rattle.ws_board.specs.declared.work.Event.{Event}
 use Rattle.ws_board.specs.declared.index.Ready.{Ready as AReady}
-use Rattle.ws_board.specs.Work.{Job, Opening, State, Seen}
+use Rattle.ws_board.specs.Work.{Job, Opening, BoardState, Seen}
 use Rattle.ws_board.specs.Machine.{IsFirst, IsHistory}
 use Rattle.ws_board.specs.Calls.{IsFresh}
-use Rattle.ws_board.specs.Carrying.{held_with}
-use Rattle.ws_board.specs.Rows.{those_of, import_count, is_back, AreCarried, IsPaid}
-use Rattle.ws_board.specs.Table.{standings_of}
+use Rattle.ws_board.specs.Propagation.{held_with}
+use Rattle.ws_board.specs.Rows.{those_of, import_count, is_back, ArePropagated, IsPaid}
+use Rattle.ws_board.specs.Table.{job_states_of}
 use Rattle.ws_board.specs.Indexes.{jobs_in, is_free_in, is_released, Agrees}
 use Rattle.ws_board.proofs.Histories.{opened_first, opened_history}
 use Rattle.ws_board.proofs.Shown.{shows}
@@ -36,7 +36,7 @@ release-requires c =
     let r = c.in_ok-rows.rows in
     let N = c.carry_all.new.rows.rows in
     let ready = c.carry_all.new.moves.ready.items in
-    let from : AreCarried r = first_good r.jobs.items r.importers.items r.rows c.in_ok-rows.ensures.first c.in_ok-rows.ensures.known in
+    let from : ArePropagated r = first_good r.jobs.items r.importers.items r.rows c.in_ok-rows.ensures.first c.in_ok-rows.ensures.known in
     let h = held_with c.args.cache c.new-added.result None in
     let listed = opened_listed h (3 * length r.rows) r c.carry_all.new.rows c.new-moves.result c.carry_all.new.moves 0 c.carry_all.new.looks c.new-moves.ensures.2 c.in_ok-rows.ensures.first from c.in_ok-carry_all.ensures.on c.in_ok-carry_all.ensures.waits in
     let inside : All (λ (one : AReady). one.job < length N) ready = ready_inside r.rows N ready listed in
@@ -55,11 +55,11 @@ invariant_of-result c =
     let on = c.in_ok-carry_all.ensures.on in
     let waits = c.in_ok-carry_all.ensures.waits in
     let none = c.new-moves.ensures.2 in
-    let from : AreCarried r = first_good J r.importers.items r.rows first c.in_ok-rows.ensures.known in
+    let from : ArePropagated r = first_good J r.importers.items r.rows first c.in_ok-rows.ensures.known in
     let h = held_with c.args.cache added None in
     let spare = 3 * length r.rows in
     let opening : Opening = record { jobs = J; cache = c.args.cache } in
-    let now : State = record { standings = standings_of N; added = added } in
+    let now : BoardState = record { standings = job_states_of N; added = added } in
     let carried = open_carried h spare r new c.new-moves.result c.carry_all.new.moves 0 c.carry_all.new.looks none first from on waits in
     let legal : IsHistory opening c.new-3.result.items now = subst (λ (l : List Event). IsHistory opening l now) (sym c.new-3.ensures.items) (opened_history opening now (opened_first J c.args.cache added now.standings c.new-added.ensures.empty carried)) in
     let few = subst (λ l. sum_by (λ list. length list) r.importers.items ≤ import_count l) (sym c.in_ok-rows.ensures.jobs) c.in_ok-rows.ensures.count in
@@ -96,9 +96,9 @@ returns-clause-fresh c =
     let added = c.new-added.result in
     let first = c.in_ok-rows.ensures.first in
     let on = c.in_ok-carry_all.ensures.on in
-    let from : AreCarried r = first_good J r.importers.items r.rows first c.in_ok-rows.ensures.known in
+    let from : ArePropagated r = first_good J r.importers.items r.rows first c.in_ok-rows.ensures.known in
     let h = held_with c.args.cache added None in
-    let now : State = record { standings = standings_of new.rows; added = added } in
+    let now : BoardState = record { standings = job_states_of new.rows; added = added } in
     let carried = open_carried h (3 * length r.rows) r new c.new-moves.result c.carry_all.new.moves 0 c.carry_all.new.looks c.new-moves.ensures.2 first from on c.in_ok-carry_all.ensures.waits in
     let begins : IsFirst (record { jobs = new.jobs.items; cache = c.args.cache }) now = subst (λ (l : List Job). IsFirst (record { jobs = l; cache = c.args.cache }) now) (sym on.jobs) (opened_first J c.args.cache added now.standings c.new-added.ensures.empty carried) in
     record { first = begins; nothing_runs = opening_rests J h now.standings carried; nothing_happened = c.new-3.ensures.items }
@@ -111,9 +111,9 @@ returns-clause-shows c =
     let added = c.new-added.result in
     let first = c.in_ok-rows.ensures.first in
     let on = c.in_ok-carry_all.ensures.on in
-    let from : AreCarried r = first_good J r.importers.items r.rows first c.in_ok-rows.ensures.known in
+    let from : ArePropagated r = first_good J r.importers.items r.rows first c.in_ok-rows.ensures.known in
     let h = held_with c.args.cache added None in
-    let now : State = record { standings = standings_of new.rows; added = added } in
+    let now : BoardState = record { standings = job_states_of new.rows; added = added } in
     let carried = open_carried h (3 * length r.rows) r new c.new-moves.result c.carry_all.new.moves 0 c.carry_all.new.looks c.new-moves.ensures.2 first from on c.in_ok-carry_all.ensures.waits in
     let begins : IsFirst (record { jobs = new.jobs.items; cache = c.args.cache }) now = subst (λ (l : List Job). IsFirst (record { jobs = l; cache = c.args.cache }) now) (sym on.jobs) (opened_first J c.args.cache added now.standings c.new-added.ensures.empty carried) in
     let seen : Seen = record { opening = record { jobs = new.jobs.items; cache = c.args.cache }; state = now; history = c.new-3.result.items; looks = c.carry_all.new.looks } in
@@ -128,7 +128,7 @@ returns-clause-looks c =
     let on = c.in_ok-carry_all.ensures.on in
     let waits = c.in_ok-carry_all.ensures.waits in
     let none = c.new-moves.ensures.2 in
-    let from : AreCarried r = first_good r.jobs.items r.importers.items r.rows first c.in_ok-rows.ensures.known in
+    let from : ArePropagated r = first_good r.jobs.items r.importers.items r.rows first c.in_ok-rows.ensures.known in
     let h = held_with c.args.cache c.new-added.result None in
     let spare = 3 * length r.rows in
     let few = subst (λ l. sum_by (λ list. length list) r.importers.items ≤ import_count l) (sym c.in_ok-rows.ensures.jobs) c.in_ok-rows.ensures.count in

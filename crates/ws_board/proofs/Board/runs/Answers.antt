@@ -1,6 +1,6 @@
 use Rattle.ws_action.specs.Actions.{action_id}
-use Rattle.ws_board.specs.Work.{Opening, State}
-use Rattle.ws_board.specs.Table.{standings_of}
+use Rattle.ws_board.specs.Work.{Opening, BoardState}
+use Rattle.ws_board.specs.Table.{job_states_of}
 use Rattle.ws_board.proofs.Alone.{history_alone}
 use Rattle.ws_board.proofs.Taking.{runs_by}
 use Rattle.ws_board.proofs.Board.runs.Goals as goal
@@ -15,5 +15,5 @@ pub returns-clause-alone : goal.returns-clause-alone
 returns-clause-alone c =
     let b = c.self.inside in
     let opening : Opening = record { jobs = b.rows.jobs.items; cache = b.opened } in
-    let now : State = record { standings = standings_of b.rows.rows; added = b.added } in
+    let now : BoardState = record { standings = job_states_of b.rows.rows; added = b.added } in
     rw (← c.self.view_is) (history_alone opening b.history.items now c.self.invariant.0)

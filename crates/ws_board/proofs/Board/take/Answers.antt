@@ -3,14 +3,14 @@ use Rattle.std.proofs.Math.ListN.{set}
 use Rattle.std.specs.Prelude.{if◌then◌else◌}
 use Rattle.std.specs.List.{list_any}
 use Rattle.ws_action.specs.Actions.{Action, action_id}
-use Rattle.ws_board.specs.declared.work.Status.TheVariants.{Running}
+use Rattle.ws_board.specs.declared.work.JobStatus.TheVariants.{Running}
 use Rattle.ws_board.specs.declared.work.Event.TheVariants.{Take, Idle}
-use Rattle.ws_board.specs.Work.{Job, Task, Standings, Opening, State, Seen}
+use Rattle.ws_board.specs.Work.{Job, Task, JobStates, Opening, BoardState, Seen}
 use Rattle.ws_board.specs.Machine.{action_at, is_running, IsRunBy, IsIdle, BoardStep, IsHistory, stood}
-use Rattle.ws_board.specs.Calls.{Happens, Gives, SomeRuns}
+use Rattle.ws_board.specs.Calls.{Happens, GivesTask, SomeRuns}
 use Rattle.ws_board.specs.Rows.{import_count, is_back, IsPaid}
-use Rattle.ws_board.specs.Table.{row_at, standings_of}
-use Rattle.ws_board.specs.Indexes.{id_in, jobs_in, is_free_in, Changes, Agrees}
+use Rattle.ws_board.specs.Table.{row_at, job_states_of}
+use Rattle.ws_board.specs.Indexes.{id_in, jobs_in, is_free_in, ChangesIndex, Agrees}
 use Rattle.ws_board.proofs.Histories.{history_more, ready_has}
 use Rattle.ws_board.proofs.Idle.{idle_is}
 use Rattle.ws_board.proofs.Own.{own_comes}
@@ -30,8 +30,8 @@ invariant_of-self-in_default c =
     let R = b.rows.rows in
     let all = c.push.new.self.items in
     let opening : Opening = record { jobs = J; cache = b.opened } in
-    let now : State = record { standings = standings_of R; added = b.added } in
-    let none : count_by is_running (standings_of R).statuses ≡ 0 = sym c.self.invariant.3.running ∙ not_running c.any_running.result b.index.running c.any_running.ensures c.if-any_running.false in
+    let now : BoardState = record { standings = job_states_of R; added = b.added } in
+    let none : count_by is_running (job_states_of R).statuses ≡ 0 = sym c.self.invariant.3.running ∙ not_running c.any_running.result b.index.running c.any_running.ensures c.if-any_running.false in
     let still = none_runs_of R none in
     let idle : IsIdle now.standings.statuses = idle_is now.standings (ready_has opening b.history.items now c.self.invariant.0) (none_free R b.index c.self.invariant.3 c.in_default.ensures.none) still in
     let pushed : all ≡ b.history.items ++ Idle c.number.result ∷ [] = search rules in
@@ -52,8 +52,8 @@ returns-in_default-clause-step c =
     let R = b.rows.rows in
     let all = c.push.new.self.items in
     let opening : Opening = record { jobs = J; cache = b.opened } in
-    let now : State = record { standings = standings_of R; added = b.added } in
-    let none : count_by is_running (standings_of R).statuses ≡ 0 = sym c.self.invariant.3.running ∙ not_running c.any_running.result b.index.running c.any_running.ensures c.if-any_running.false in
+    let now : BoardState = record { standings = job_states_of R; added = b.added } in
+    let none : count_by is_running (job_states_of R).statuses ≡ 0 = sym c.self.invariant.3.running ∙ not_running c.any_running.result b.index.running c.any_running.ensures c.if-any_running.false in
     let still = none_runs_of R none in
     let idle : IsIdle now.standings.statuses = idle_is now.standings (ready_has opening b.history.items now c.self.invariant.0) (none_free R b.index c.self.invariant.3 c.in_default.ensures.none) still in
     let pushed : all ≡ b.history.items ++ Idle c.number.result ∷ [] = search rules in
@@ -73,7 +73,7 @@ pub returns-then-any_running-clause-step : goal.returns-then-any_running-clause-
 returns-then-any_running-clause-step c =
     let b = c.self.inside in
     let R = b.rows.rows in
-    let some : SomeRuns (standings_of R).statuses = counted_some (standings_of R).statuses (subst (λ n. 0 < n) c.self.invariant.3.running (c.any_running.ensures.0 c.if-any_running.true)) in
+    let some : SomeRuns (job_states_of R).statuses = counted_some (job_states_of R).statuses (subst (λ n. 0 < n) c.self.invariant.3.running (c.any_running.ensures.0 c.if-any_running.true)) in
     rw (← c.self.view_is) (none_free R b.index c.self.invariant.3 c.in_default.ensures.none, some, refl)
 
 -- ---- a job is given
@@ -132,23 +132,23 @@ invariant_of-self-in-Ok c =
     let free = c.in-Some.ensures.some in
     let its = c.in-Ok.ensures.action in
     let opening : Opening = record { jobs = J; cache = b.opened } in
-    let now : State = record { standings = standings_of R; added = b.added } in
-    let new : State = record { standings = stood (standings_of R) k (Running hand); added = b.added } in
+    let now : BoardState = record { standings = job_states_of R; added = b.added } in
+    let new : BoardState = record { standings = stood (job_states_of R) k (Running hand); added = b.added } in
     let written : N ≡ set R k (record (row_at R k) { status = Running hand }) = c.run-in-Ok.ensures.rows ∙ ap (λ (h : ℕ). set R k (record (row_at R k) { status = Running h })) c.number-in-Ok-2.ensures in
     let pushed : all ≡ b.history.items ++ Take hand k ∷ [] =
     c.push_reserved.ensures.items ∙ ap (λ l. l ++ Take c.number-in-Ok-3.result k ∷ []) c.in_ok-reserve.ensures.items ∙ ap (λ (h : ℕ). b.history.items ++ Take h k ∷ []) c.number-in-Ok-3.ensures in
     let step : BoardStep opening now (Take hand k) new = (a, take_free J I R N b.index index k hand a c.self.invariant.1 c.self.invariant.3 free its written, refl) in
     let legal : IsHistory opening all new = history_more opening b.history.items all now (Take hand k) new c.self.invariant.0 step pushed in
-    let changes : Changes b.index index (action_id a) (jobs_in b.index (action_id a)) (Some (record { hand = hand; job = k })) =
-    subst (λ i. Changes b.index index i (jobs_in b.index i) (Some (record { hand = hand; job = k }))) c.id.ensures
-    (subst (λ (h : ℕ). Changes b.index index c.id.result (jobs_in b.index c.id.result) (Some (record { hand = h; job = k }))) c.number-in-Ok.ensures c.run.ensures.changes) in
+    let changes : ChangesIndex b.index index (action_id a) (jobs_in b.index (action_id a)) (Some (record { hand = hand; job = k })) =
+    subst (λ i. ChangesIndex b.index index i (jobs_in b.index i) (Some (record { hand = hand; job = k }))) c.id.ensures
+    (subst (λ (h : ℕ). ChangesIndex b.index index c.id.result (jobs_in b.index c.id.result) (Some (record { hand = h; job = k }))) c.number-in-Ok.ensures c.run.ensures.changes) in
     let marked : (j : ℕ) → is_free_in index j ≡ (if list_any (λ i. eqb i j) (jobs_in b.index (action_id a)) then false else is_free_in b.index j) =
     λ j. c.run.ensures.free j ∙ ap (λ i. if list_any (λ l. eqb l j) (jobs_in b.index i) then false else is_free_in b.index j) c.id.ensures in
     let agrees : Agrees N index = take_agrees J I R N b.index index k hand a c.self.invariant.1 c.self.invariant.3 free its written changes marked c.run.ensures.len c.run.ensures.running in
     let paid : IsPaid c.given.new.looks N (import_count J) (count_by is_back all) =
     take_paid J I R N b.index index k hand a c.self.invariant.1 c.self.invariant.3 free its written b.looks c.given.new.looks (import_count J) b.history.items all hand pushed c.given.ensures.one c.self.invariant.5 in
     let parts =
-    moved J K I L N b.opened b.added all (stood (standings_of R) k (Running hand)) c.given.new.looks (count_by is_back all) c.run-in-Ok.ensures.jobs c.run-in-Ok.ensures.importers
+    moved J K I L N b.opened b.added all (stood (job_states_of R) k (Running hand)) c.given.new.looks (count_by is_back all) c.run-in-Ok.ensures.jobs c.run-in-Ok.ensures.importers
     (take_stood J I R N b.index index k hand a c.self.invariant.1 c.self.invariant.3 free its written) legal
     (take_good J I R N b.index index k hand a c.self.invariant.1 c.self.invariant.3 free its written)
     (take_waits J I R N b.index index k hand a c.self.invariant.1 c.self.invariant.3 free its written c.self.invariant.2) paid in
@@ -179,19 +179,19 @@ returns-in-Ok-clause-step c =
     let all = c.push_reserved.new.self.items in
     let free = c.in-Some.ensures.some in
     let its = c.in-Ok.ensures.action in
-    let before : Seen = record { opening = record { jobs = J; cache = b.opened }; state = record { standings = standings_of R; added = b.added }; history = b.history.items; looks = b.looks } in
-    let after : Seen = record { opening = record { jobs = K; cache = b.opened }; state = record { standings = standings_of N; added = b.added }; history = all; looks = c.given.new.looks } in
+    let before : Seen = record { opening = record { jobs = J; cache = b.opened }; state = record { standings = job_states_of R; added = b.added }; history = b.history.items; looks = b.looks } in
+    let after : Seen = record { opening = record { jobs = K; cache = b.opened }; state = record { standings = job_states_of N; added = b.added }; history = all; looks = c.given.new.looks } in
     let written : N ≡ set R k (record (row_at R k) { status = Running hand }) = c.run-in-Ok.ensures.rows ∙ ap (λ (h : ℕ). set R k (record (row_at R k) { status = Running h })) c.number-in-Ok-2.ensures in
     let pushed : all ≡ b.history.items ++ Take hand k ∷ [] =
     c.push_reserved.ensures.items ∙ ap (λ l. l ++ Take c.number-in-Ok-3.result k ∷ []) c.in_ok-reserve.ensures.items ∙ ap (λ (h : ℕ). b.history.items ++ Take h k ∷ []) c.number-in-Ok-3.ensures in
     let stands = take_stood J I R N b.index index k hand a c.self.invariant.1 c.self.invariant.3 free its written in
     let step : BoardStep before.opening before.state (Take hand k) after.state =
-    (a, take_free J I R N b.index index k hand a c.self.invariant.1 c.self.invariant.3 free its written, ap (λ (s : Standings). let new : State = record { standings = s; added = b.added } in new) stands) in
+    (a, take_free J I R N b.index index k hand a c.self.invariant.1 c.self.invariant.3 free its written, ap (λ (s : JobStates). let new : BoardState = record { standings = s; added = b.added } in new) stands) in
     let happens : Happens before (Take hand k) after = record { step = step; history = pushed; opening = ap (λ (jobs : List Job). let opening : Opening = record { jobs = jobs; cache = b.opened } in opening) c.run-in-Ok.ensures.jobs } in
-    let run : IsRunBy (standings_of N) hand k a = taken_run J I R N b.index index k hand a c.self.invariant.1 c.self.invariant.3 free its written in
+    let run : IsRunBy (job_states_of N) hand k a = taken_run J I R N b.index index k hand a c.self.invariant.1 c.self.invariant.3 free its written in
     let knows = c.self.invariant.4 k (free_inside R b.index c.self.invariant.3 k free) in
     let task : Task = record { job = k; action = a; was_back = (row_at R k).was_back } in
-    rw (← c.self.view_is) (subst (λ (t : Task). Gives hand t before after) (sym c.in-Ok.ensures.task) (record { runs = run; happens = happens; was_back = knows }))
+    rw (← c.self.view_is) (subst (λ (t : Task). GivesTask hand t before after) (sym c.in-Ok.ensures.task) (record { runs = run; happens = happens; was_back = knows }))
 
 pub returns-in-Ok-clause-least : goal.returns-in-Ok-clause-least
 returns-in-Ok-clause-least c =
@@ -208,7 +208,7 @@ returns-in-Ok-clause-own c =
     let a : Action = c.in-Ok.task.action in
     let R = b.rows.rows in
     let opening : Opening = record { jobs = b.rows.jobs.items; cache = b.opened } in
-    let now : State = record { standings = standings_of R; added = b.added } in
+    let now : BoardState = record { standings = job_states_of R; added = b.added } in
     let before : Seen = record { opening = opening; state = now; history = b.history.items; looks = b.looks } in
     let its : action_at now.standings.actions k ≡ Some a = action_row R k ∙ c.in-Ok.ensures.action in
     rw (← c.self.view_is) (own_comes before k a (history_keeps opening b.history.items now c.self.invariant.0) its)

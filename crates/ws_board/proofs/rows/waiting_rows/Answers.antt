@@ -1,5 +1,5 @@
 use Rattle.std.proofs.Common.{◌≡◌, length, ap, subst, arith}
-use Rattle.ws_board.specs.Rows.{AreFirst}
+use Rattle.ws_board.specs.Rows.{AreFirstRows}
 use Rattle.ws_board.proofs.Importing.{first_none, first_more, first_is}
 use Rattle.ws_board.proofs.rows.waiting_rows.Goals as goal
 
@@ -15,4 +15,4 @@ loop-k-preserved c =
 pub returns : goal.returns
 returns c =
     let n : c.loop-k.k ≡ length c.args.jobs.now = omega arith in
-    subst (λ i. AreFirst c.args.jobs.now c.args.importers.now i c.loop-k.rows.items) n c.loop-k.invariant
+    subst (λ i. AreFirstRows c.args.jobs.now c.args.importers.now i c.loop-k.rows.items) n c.loop-k.invariant

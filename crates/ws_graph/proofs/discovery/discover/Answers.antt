@@ -1,6 +1,6 @@
 use Rattle.std.proofs.lemmas.List.{nil_from_length}
 use Rattle.std.proofs.Common.{rules, ◌≡◌, length, false, arith}
-use Rattle.ws_graph.specs.Discovery.{held_sources, texts, waiting_paths}
+use Rattle.ws_graph.specs.Discovery.{held_sources, string_texts, waiting_paths}
 use Rattle.ws_graph.proofs.Walking.{begun, not_empty, waiting_files, next_head, grows, all_met}
 use Rattle.ws_graph.proofs.discovery.discover.Goals as goal
 
@@ -13,7 +13,7 @@ loop-alloc-preserved g c =
     let targets = waiting_paths c.args.first.items in
     let at = c.loop-alloc.invariant in
     let takes = c.in_ok-imported.ensures.takes c.args.edition targets c.loop-alloc.wave.items (c.in_ok-read.ensures sources at.waiting) at.walking in
-    next_head c.args.edition sources targets c.loop-alloc.wave.items c.in_ok-wave.wave.items c.loop-alloc.met.entries c.take_all.new.met.entries (texts c.in_ok-imported.imported.items) takes c.in_ok-imported.ensures.ordered c.in_ok-wave.ensures
+    next_head c.args.edition sources targets c.loop-alloc.wave.items c.in_ok-wave.wave.items c.loop-alloc.met.entries c.take_all.new.met.entries (string_texts c.in_ok-imported.imported.items) takes c.in_ok-imported.ensures.ordered c.in_ok-wave.ensures
 
 pub loop-alloc-smaller : goal.loop-alloc-smaller
 loop-alloc-smaller g c =
@@ -24,7 +24,7 @@ loop-alloc-smaller g c =
     let takes = c.in_ok-imported.ensures.takes c.args.edition targets wave (c.in_ok-read.ensures sources at.waiting) at.walking in
     let filled : c.is_empty.result ≡ false = search rules in
     let some = not_empty wave c.is_empty.result c.loop-alloc.wave.len (omega (arith, c.loop-alloc.wave.ok)) c.is_empty.ensures filled in
-    let both = grows c.args.edition sources targets wave c.loop-alloc.met.entries c.take_all.new.met.entries (texts c.in_ok-imported.imported.items) (waiting_files sources c.args.first.items c.requires) at some c.in_ok-imported.ensures.ordered takes in
+    let both = grows c.args.edition sources targets wave c.loop-alloc.met.entries c.take_all.new.met.entries (string_texts c.in_ok-imported.imported.items) (waiting_files sources c.args.first.items c.requires) at some c.in_ok-imported.ensures.ordered takes in
     let more = both.0 in
     let few = both.1 in
     omega (arith, more, few)

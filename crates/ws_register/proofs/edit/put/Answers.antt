@@ -1,6 +1,6 @@
 use Rattle.std.proofs.Common.{◌≡◌, sym, ap, subst, ◌∙◌, ◌+◌, ◌++◌, take, drop, Result, Ok, Err, OnOk}
 use Rattle.ws_register.specs.Listed.{writes_of, all_writes}
-use Rattle.ws_register.specs.Pages.{values, Ascends, AllBelow, AllAbove}
+use Rattle.ws_register.specs.Pages.{values, Ascends, AllPathsBelow, AllAbove}
 use Rattle.ws_register.proofs.Edited.{put-on_part, middle-ascends}
 use Rattle.ws_register.proofs.edit.put.Goals as goal
 
@@ -25,7 +25,7 @@ returns-clause-ok c =
     ok_then c.replace.result (λ whole.
     put-on_part writes_of pages at old new (all_writes c.replace.new.pages.items) path c.args.write.1
     (subst (λ l. all_writes l ≡ all_writes (take at l) ++ (old ++ all_writes (drop (at + 1) l))) c.deref-2.ensures.value c.writes_at.ensures.page)
-    (subst (λ l. AllBelow (all_writes (take at l)) path) c.deref.ensures.value (subst (AllBelow (all_writes (take at c.deref.result.now))) c.path.ensures c.page_at-at.ensures.below))
+    (subst (λ l. AllPathsBelow (all_writes (take at l)) path) c.deref.ensures.value (subst (AllPathsBelow (all_writes (take at c.deref.result.now))) c.path.ensures c.page_at-at.ensures.below))
     (subst (λ l. AllAbove (all_writes (drop (at + 1) l)) path) c.deref.ensures.value (subst (AllAbove (all_writes (drop (at + 1) c.deref.result.now))) c.path.ensures c.page_at-at.ensures.above))
     (ap values c.deref-3.ensures.value ∙ c.in_ok-writes.ensures.all) whole)
     c.replace.ensures.ok

@@ -3,7 +3,7 @@ use Rattle.std.specs.declared.cmp.Ordering.TheVariants.{Equal, Greater}
 use Rattle.ws_version.specs.Writes.{path_cmp}
 use Rattle.ws_version.proofs.Writes.{path_cmp_total, path_cmp-IsAntisymmetric}
 use Rattle.std.proofs.lemmas.Grind.{common_steps}
-use Rattle.ws_register.specs.Pages.{AllBelow}
+use Rattle.ws_register.specs.Pages.{AllPathsBelow}
 use Rattle.ws_register.proofs.Searching.{turned_greater}
 use Rattle.ws_register.proofs.Walks.{compared, take-front, take-front_of_others, still-ascends}
 use Rattle.ws_register.proofs.merge.take_step.Goals as goal
@@ -38,7 +38,7 @@ pub returns-in_ok-take_below-in-Less-clause-joined : goal.returns-in_ok-take_bel
 returns-in_ok-take_below-in-Less-clause-joined c =
     let taken = c.in_ok-take_below-in-Less.ensures.taken in
     take-front c.args.draft.now c.take_below.new.draft c.args.mine.now c.take_below.new.rest c.args.theirs.now taken.0 c.in-Some-first.ensures.0 c.in-Some-first.other.now
-    taken.1 (subst (AllBelow taken.0) c.path-in-Less.ensures taken.2) c.in-Some-first.ensures.1 taken.3 c.requires.mine c.requires.theirs
+    taken.1 (subst (AllPathsBelow taken.0) c.path-in-Less.ensures taken.2) c.in-Some-first.ensures.1 taken.3 c.requires.mine c.requires.theirs
 
 pub returns-in_ok-take_below-in-Less-clause-mine : goal.returns-in_ok-take_below-in-Less-clause-mine
 returns-in_ok-take_below-in-Less-clause-mine c =
@@ -49,7 +49,7 @@ pub returns-in_ok-take_below-in-Greater-clause-joined : goal.returns-in_ok-take_
 returns-in_ok-take_below-in-Greater-clause-joined c =
     let taken = c.in_ok-take_below-in-Greater.ensures.taken in
     take-front_of_others c.args.draft.now c.take_below-in-Greater.new.draft c.args.theirs.now c.take_below-in-Greater.new.rest c.args.mine.now taken.0 c.in-Some.ensures.0 c.in-Some.first.now
-    taken.1 (subst (AllBelow taken.0) c.path-in-Greater.ensures taken.2) c.in-Some.ensures.1 taken.3 c.requires.theirs c.requires.mine
+    taken.1 (subst (AllPathsBelow taken.0) c.path-in-Greater.ensures taken.2) c.in-Some.ensures.1 taken.3 c.requires.theirs c.requires.mine
 
 pub returns-in_ok-take_below-in-Greater-clause-theirs : goal.returns-in_ok-take_below-in-Greater-clause-theirs
 returns-in_ok-take_below-in-Greater-clause-theirs c =

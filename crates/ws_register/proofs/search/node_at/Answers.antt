@@ -4,7 +4,7 @@ use Rattle.std.specs.Prelude.{take, drop}
 use Rattle.std.proofs.lemmas.Fn.{always_returns_same}
 use Rattle.ws_version.specs.Writes.{path_cmp}
 use Rattle.ws_register.specs.Nodes.{writes_below, all_nodes}
-use Rattle.ws_register.specs.Pages.{AllBelow, AllAbove}
+use Rattle.ws_register.specs.Pages.{AllPathsBelow, AllAbove}
 use Rattle.ws_register.specs.Search.{first_path}
 use Rattle.ws_register.proofs.Parts.{node-some, found-below, found-above, between-below, between-above}
 use Rattle.ws_register.proofs.search.node_at.Goals as goal
@@ -22,7 +22,7 @@ returns-in-Ok-clause-above c =
 pub returns-in-Err-clause-below : goal.returns-in-Err-clause-below
 returns-in-Err-clause-below c =
     let by_path = c.binary_search_by-found.ensures.position (λ q. path_cmp (first_path (writes_below (arc_value q))) c.args.path.now) (always_returns_same _ _ _ (λ a r f k. search (rules, of_calls))) in
-    subst (λ i. AllBelow (all_nodes (take i c.args.nodes.now)) c.args.path.now) (sym c.saturating_sub.ensures)
+    subst (λ i. AllPathsBelow (all_nodes (take i c.args.nodes.now)) c.args.path.now) (sym c.saturating_sub.ensures)
     (between-below writes_below node-some c.args.nodes.now c.args.path.now c.requires c.in-Err.next (rw c.in-Err.is at c.binary_search_by-found.ensures.bound, rw c.in-Err.is at by_path))
 
 pub returns-in-Err-clause-above : goal.returns-in-Err-clause-above

@@ -6,7 +6,7 @@ use Rattle.std.specs.List.{All, AllZip}
 use Rattle.ws_replica.specs.Builds.{target_of}
 use Rattle.ws_replica.specs.Holdings.{Replica}
 use Rattle.ws_replica.specs.Jobs.{reached_of, all_reached_of}
-use Rattle.ws_replica.specs.Parts.{part_of, AllPartsWithin, IsPartOf, IsRunOf}
+use Rattle.ws_replica.specs.Parts.{target_part, AllPartsWithin, IsPartOf, IsRunOf}
 use Rattle.ws_replica.specs.Targets.{AllInOrder, IsOpening, TakeResults}
 use Rattle.ws_replica.specs.declared.parts.Part.{Part}
 use Rattle.ws_replica.specs.declared.reached.Reached.{Reached}
@@ -44,12 +44,12 @@ run-requires-clause-within g c κs within =
 pub returns-clause-ok : goal.returns-clause-ok
 returns-clause-ok g c took stand sized hold =
     let all = all_reached_of c.in_ok-all.all.items in
-    let parts = map part_of c.in_ok-parts.parts.items in
+    let parts = map target_part c.in_ok-parts.parts.items in
     let targets = map target_of c.args.targets.now in
     let holders = c.args.holders.now in
     let parts_are : AllZip (IsPartOf all) targets parts = subst (λ (xs : List (Vec Reached Global)). AllZip (IsPartOf (all_reached_of xs)) targets parts) c.as_slice.ensures.value c.in_ok-parts.ensures.are in
     let run : IsRunOf c.in_ok-opening.opening all parts c.in_ok-reports.reports.items c.in_ok-reports.added =
-    subst (λ (ps : List Part). IsRunOf c.in_ok-opening.opening all (map part_of ps) c.in_ok-reports.reports.items c.in_ok-reports.added) c.as_slice-2.ensures.value c.in_ok-reports.ensures in
+    subst (λ (ps : List Part). IsRunOf c.in_ok-opening.opening all (map target_part ps) c.in_ok-reports.reports.items c.in_ok-reports.added) c.as_slice-2.ensures.value c.in_ok-reports.ensures in
     let same : c.all_planned.new.replicas ≡ c.args.replicas.now = c.in_ok-all.ensures.same in
     let opens : IsOpening c.args.replicas.now holders c.in_ok-opening.opening = subst (λ (rs : List Replica). IsOpening rs holders c.in_ok-opening.opening) same c.in_ok-opening.ensures in
     let take : TakeResults holders targets c.in_ok-reports.added c.args.replicas.now c.give_results.new.replicas =

@@ -1,7 +1,7 @@
 use Rattle.std.proofs.Common.{subst}
 use Rattle.std.specs.Prelude.{MatchOption}
 use Rattle.std.specs.Arc.{arc_value}
-use Rattle.ws_replica.specs.Opened.{IsObjectAt, LacksObjectAt}
+use Rattle.ws_replica.specs.Stopped.{IsObjectAt, LacksObjectAt}
 use Rattle.ws_replica.proofs.Steps.{objects_next}
 use Rattle.ws_replica.proofs.linking.objects_held.Goals as goal
 

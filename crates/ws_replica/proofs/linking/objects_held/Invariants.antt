@@ -1,6 +1,6 @@
 use Rattle.std.proofs.Common.{map}
 use Rattle.std.specs.Arc.{arc_value}
-use Rattle.ws_replica.specs.Opened.{AreObjects}
+use Rattle.ws_replica.specs.Stopped.{AreObjects}
 use Rattle.ws_replica.proofs.linking.objects_held.Given as goal
 
 abbrev pub invariant-loop-job : goal.invariant-loop-job

@@ -1,5 +1,5 @@
 use Rattle.std.proofs.Common.{rules, ◌≡◌, Some, ap, subst, ◌∙◌}
-use Rattle.ws_graph.specs.Discovery.{texts}
+use Rattle.ws_graph.specs.Discovery.{string_texts}
 use Rattle.ws_replica.specs.Plans.{KeepsPlan}
 use Rattle.ws_replica.proofs.Plans.{plan_moved}
 use Rattle.ws_replica.proofs.plan.kept_or_planned.Goals as goal
@@ -9,5 +9,5 @@ returns-in-Some-clause-ok g c =
     let plan = c.in-Some.plan in
     let kept : c.args.kept ≡ Some plan = search rules in
     let is_in : plan.edition ≡ c.args.edition = search rules in
-    let fits : texts plan.targets.items ≡ texts c.as_slice.result.now = search rules in
-    plan_moved c.args.registers.now c.args.edition (texts c.args.targets.items) plan is_in (fits ∙ ap texts c.as_slice.ensures.value) (subst (KeepsPlan c.args.registers.now) kept c.requires)
+    let fits : string_texts plan.targets.items ≡ string_texts c.as_slice.result.now = search rules in
+    plan_moved c.args.registers.now c.args.edition (string_texts c.args.targets.items) plan is_in (fits ∙ ap string_texts c.as_slice.ensures.value) (subst (KeepsPlan c.args.registers.now) kept c.requires)

@@ -2,7 +2,7 @@ use Rattle.std.proofs.Common.{◌++◌, sym, subst}
 use Rattle.std.specs.FinMap.{FinMap}
 use Rattle.ws_action.specs.Actions.{Action}
 use Rattle.ws_cache.specs.Held.{id_cmp, CacheStandsFor}
-use Rattle.ws_version_vector.specs.Told.{Brings}
+use Rattle.ws_version_vector.specs.Taken.{Brings}
 use Rattle.ws_replica.proofs.Membership.{same_actions, more_known, all_known}
 use Rattle.ws_replica.proofs.sharing.merge_cache.Goals as goal
 

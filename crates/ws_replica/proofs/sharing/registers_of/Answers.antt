@@ -3,7 +3,7 @@ use Rattle.std.specs.Prelude.{Result, Ok, Err, IfOk}
 use Rattle.std.specs.FinMap.{FinMap}
 use Rattle.ws_map.specs.Kept.{StandsFor}
 use Rattle.ws_version.specs.Writes.{Held, path_cmp, held_cmp}
-use Rattle.ws_version_vector.specs.Told.{Brings}
+use Rattle.ws_version_vector.specs.Taken.{Brings}
 use Rattle.ws_replica.proofs.Membership.{same_writes, more_known, all_known}
 use Rattle.ws_replica.proofs.sharing.registers_of.Goals as goal
 

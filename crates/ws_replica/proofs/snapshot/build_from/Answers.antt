@@ -11,7 +11,7 @@ use Rattle.ws_cache.specs.Joined.{lesser}
 use Rattle.ws_replica.specs.Builds.{target_of, held_at, held_by, AreBuiltFrom}
 use Rattle.ws_replica.specs.Holdings.{Replica}
 use Rattle.ws_replica.specs.Jobs.{reached_of, all_reached_of}
-use Rattle.ws_replica.specs.Parts.{part_of, AllPartsWithin, IsPartOf, IsRunOf}
+use Rattle.ws_replica.specs.Parts.{target_part, AllPartsWithin, IsPartOf, IsRunOf}
 use Rattle.ws_replica.specs.Targets.{AreReached, AllInOrder, IsOpening}
 use Rattle.ws_replica.specs.declared.parts.Part.{Part}
 use Rattle.ws_replica.specs.declared.reached.Reached.{Reached}
@@ -48,12 +48,12 @@ returns-clause-ok g c took stand sized =
     let held : List Replica = c.args.snapshots.now in
     let targets = map target_of c.args.targets.now in
     let all = all_reached_of c.in_ok-all.all.items in
-    let parts = map part_of c.in_ok-parts.parts.items in
+    let parts = map target_part c.in_ok-parts.parts.items in
     let opening = c.in_ok-opening.opening in
     let reached : AreReached edition held targets all = subst (λ (rs : List Replica). AreReached edition rs targets all) (c.as_mut_slice.ensures.value ∙ c.in_ok-replicas.ensures) c.in_ok-all.ensures.ok in
     let parts_are : AllZip (IsPartOf all) targets parts = subst (λ (xs : List (Vec Reached Global)). AllZip (IsPartOf (all_reached_of xs)) targets parts) c.as_slice.ensures.value c.in_ok-parts.ensures.are in
     let run : IsRunOf opening all parts c.in_ok-reports.reports.items c.in_ok-reports.added =
-    subst (λ (ps : List Part). IsRunOf opening all (map part_of ps) c.in_ok-reports.reports.items c.in_ok-reports.added) c.as_slice-2.ensures.value c.in_ok-reports.ensures in
+    subst (λ (ps : List Part). IsRunOf opening all (map target_part ps) c.in_ok-reports.reports.items c.in_ok-reports.added) c.as_slice-2.ensures.value c.in_ok-reports.ensures in
     let numbers : List ℕ = c.deref-2.result.now in
     let opens : IsOpening held numbers opening = subst (λ (rs : List Replica). IsOpening rs numbers opening) (c.deref.ensures.value ∙ c.in_ok-replicas.ensures) c.in_ok-opening.ensures in
     let same : held_at took numbers ≡ held_by took targets = ap (held_at took) (c.deref-2.ensures.value ∙ c.in_ok-numbers.ensures) ∙ held_numbers took c.args.targets.now in

@@ -1,5 +1,5 @@
 use Rattle.std.proofs.Common.{◌≡◌, drop}
-use Rattle.ws_run.specs.Told.{folders_of, folder_of}
+use Rattle.ws_run.specs.Printing.{folders_of, folder_of}
 use Rattle.ws_run.proofs.answer.folder_of.Given as goal
 
 -- what is left gives what all of it gives

@@ -3,11 +3,11 @@ use Rattle.std.proofs.lemmas.List.{take_at}
 use Rattle.std.specs.Prelude.{Vec, IfNone}
 use Rattle.std.specs.Global.{Global}
 use Rattle.std.specs.List.{slice_get}
-use Rattle.go_vm.specs.Outcomes.{Outcome}
+use Rattle.go_vm.specs.Outcomes.{ProgramOutcome}
 use Rattle.ws_report.specs.declared.Report.{Report}
 use Rattle.ws_replica.specs.Holdings.{Replica, AllStandFor}
 use Rattle.ws_run.specs.Files.{Files}
-use Rattle.ws_run.specs.Steps.{all_good, IsLast, took_of, IsBuilt, HoldsProgram, ComesTo}
+use Rattle.ws_run.specs.Steps.{all_good, IsLast, took_of, IsBuilt, HoldsProgram, ImageEndsAs}
 use Rattle.ws_run.proofs.Building.{no_files, sole_replica, has_faults, holds_program}
 use Rattle.ws_run.proofs.run.answer_of.Goals as goal
 
@@ -39,7 +39,7 @@ returns-in-Some-2 g c clear =
     let one : length new ≡ 1 = c.in_ok-reports.ensures.stay ∙ ap (λ (rs : List Replica). length rs) value in
     let at : slice_get new 0 ≡ Some replica = sole_replica new replica one (c.index.ensures ∙ ap (λ (rs : List Replica). get_or rs 0 replica) (take_at new (drop (length new) old) c.in_ok-replicas.replicas.len sized)) in
     let holds : HoldsProgram c.args.edition files c.args.directory.now replica = holds_program c.args.edition files c.args.directory.now c.in-Some.reports.items new built clear good replica at in
-    subst (λ (o : Option Outcome). ComesTo c.args.edition files c.args.directory.now c.args.ticks o) c.in-Some-2.is (c.in_ok-outcome.ensures files holds)
+    subst (λ (o : Option ProgramOutcome). ImageEndsAs c.args.edition files c.args.directory.now c.args.ticks o) c.in-Some-2.is (c.in_ok-outcome.ensures files holds)
 
 pub returns : goal.returns
 returns g c clear =
@@ -55,4 +55,4 @@ returns g c clear =
     let one : length new ≡ 1 = c.in_ok-reports.ensures.stay ∙ ap (λ (rs : List Replica). length rs) value in
     let at : slice_get new 0 ≡ Some replica = sole_replica new replica one (c.index.ensures ∙ ap (λ (rs : List Replica). get_or rs 0 replica) (take_at new (drop (length new) old) c.in_ok-replicas.replicas.len sized)) in
     let holds : HoldsProgram c.args.edition files c.args.directory.now replica = holds_program c.args.edition files c.args.directory.now c.in-Some.reports.items new built clear good replica at in
-    subst (λ (o : Option Outcome). ComesTo c.args.edition files c.args.directory.now c.args.ticks o) c.in-None.is (c.in_ok-outcome.ensures files holds)
+    subst (λ (o : Option ProgramOutcome). ImageEndsAs c.args.edition files c.args.directory.now c.args.ticks o) c.in-None.is (c.in_ok-outcome.ensures files holds)

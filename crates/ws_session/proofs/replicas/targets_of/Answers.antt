@@ -5,7 +5,7 @@ use Rattle.std.proofs.lemmas.Str.{is_utf8-from_IsUtf8}
 use Rattle.ws_replica.specs.Builds.{target_of}
 use Rattle.ws_replica.specs.declared.building.Target.{Target}
 use Rattle.ws_command.specs.declared.refusal.Refusal.TheVariants.{Unknown}
-use Rattle.ws_session.specs.Standing.{asked_of, targets_row}
+use Rattle.ws_session.specs.Representation.{asked_of, targets_row}
 use Rattle.ws_session.proofs.Asked.{text_more, other_more, one_unknown, same_so_far, asked_more, asked_split}
 use Rattle.ws_session.proofs.Utf8.{not_utf8}
 use Rattle.ws_session.proofs.replicas.targets_of.Goals as goal

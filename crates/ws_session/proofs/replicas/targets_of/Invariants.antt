@@ -1,6 +1,6 @@
 use Rattle.std.proofs.Common.{map, take}
 use Rattle.ws_replica.specs.Builds.{target_of}
-use Rattle.ws_session.specs.Standing.{asked_of}
+use Rattle.ws_session.specs.Representation.{asked_of}
 use Rattle.ws_session.proofs.Asked.{SoFar}
 use Rattle.ws_session.proofs.replicas.targets_of.Given as goal
 

@@ -1,14 +1,14 @@
 use Rattle.std.proofs.Common.{◌≡◌, ◌<◌, ℕ, List, map, drop, length, get_or, sym, ap, ◌∙◌, subst, arith}
 use Rattle.std.proofs.lemmas.List.{take_all, take_at}
 use Rattle.ws_replica.specs.Builds.{took_at}
-use Rattle.ws_replica.specs.Holdings.{Replica, ReplicaStandsFor, Took, AllStandFor, all_taken, both}
-use Rattle.ws_session.specs.declared.replicas.Named.{Named}
+use Rattle.ws_replica.specs.Holdings.{Replica, ReplicaStandsFor, Took, AllStandFor, all_taken, replica_join}
+use Rattle.ws_session.specs.declared.replicas.SessionReplica.{SessionReplica}
 use Rattle.ws_session.proofs.Joining.{joined_more, stands_at, stands_last, taken_by, settled_length}
 use Rattle.ws_session.proofs.taking.joined_of.Goals as goal
 
 pub loop-top-preserved : goal.loop-top-preserved
 loop-top-preserved g c = λ took stands.
-    let ns : List Named = c.args.named.now.items in
+    let ns : List SessionReplica = c.args.named.now.items in
     let tops : List ℕ = c.args.tops.now in
     let i : ℕ = c.loop-top.top-index in
     let t : ℕ = get_or tops i 0 in
@@ -25,7 +25,7 @@ returns-in-Some g c = λ took stands.
     let new : List Replica = c.settle.new.replicas in
     let kept = subst (λ (ts : List ℕ). AllStandFor c.loop-top.members.items (map (took_at took) ts)) (take_all c.loop-top.top-index tops (omega (arith, c.loop-top-test.false))) (c.loop-top.invariant took stands) in
     let held = subst (λ (rs : List Replica). AllStandFor rs all) (sym c.as_mut_slice.ensures.value) kept in
-    let length_kept : length new ≡ length old = ap (λ (rs : List Replica). length rs) c.in_ok-settle.ensures.ok ∙ settled_length both old in
+    let length_kept : length new ≡ length old = ap (λ (rs : List Replica). length rs) c.in_ok-settle.ensures.ok ∙ settled_length replica_join old in
     let sized : length new ≡ c.loop-top.members.len = let long = ap (λ (rs : List Replica). length rs) c.as_mut_slice.ensures.value in omega (arith, length_kept, long, c.loop-top.members.ok.0) in
     let whole = take_at new (drop (length new) c.loop-top.members.items) c.loop-top.members.len sized in
     taken_by took tops c.in-Some.joined

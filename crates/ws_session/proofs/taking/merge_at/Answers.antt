@@ -2,19 +2,19 @@ use Rattle.std.proofs.Common.{◌≡◌, ◌<◌, length, List, get_or, subst, r
 use Rattle.std.specs.Prelude.{◌≢◌}
 use Rattle.std.proofs.Math.ListN.{set, length-set}
 use Rattle.std.proofs.lemmas.List.{get_or-set_same, get_or-set_other, set-set}
-use Rattle.ws_session.specs.declared.replicas.Named.{Named}
+use Rattle.ws_session.specs.declared.replicas.SessionReplica.{SessionReplica}
 use Rattle.ws_replica.specs.Holdings.{Replica, ReplicaStandsFor}
 use Rattle.ws_session.proofs.Standings.{one_element, on_ok_map}
 use Rattle.ws_session.proofs.taking.merge_at.Goals as goal
 
 pub returns : goal.returns
 returns c =
-    let ns : List Named = c.args.named.now.items in
-    let first : Named = c.index_mut.result.now in
-    let hollow : Named = record { name = first.name; number = first.number; replica = c.replace-one.new.dest } in
-    let mid : List Named = set ns c.args.mine hollow in
-    let second : Named = c.index_mut-2.result.now in
-    let new : Named = record { name = second.name; number = second.number; replica = c.take_news-merged.new.one } in
+    let ns : List SessionReplica = c.args.named.now.items in
+    let first : SessionReplica = c.index_mut.result.now in
+    let hollow : SessionReplica = record { name = first.name; number = first.number; replica = c.replace-one.new.dest } in
+    let mid : List SessionReplica = set ns c.args.mine hollow in
+    let second : SessionReplica = c.index_mut-2.result.now in
+    let new : SessionReplica = record { name = second.name; number = second.number; replica = c.take_news-merged.new.one } in
     let mine : c.args.mine < length ns = omega (arith, c.requires.mine, c.args.named.now.ok.0) in
     let theirs : c.args.theirs < length ns = omega (arith, c.requires.theirs, c.args.named.now.ok.0) in
     let mine_mid : c.args.mine < length mid = omega (arith, mine, length-set ns c.args.mine hollow) in
@@ -28,12 +28,12 @@ returns c =
       so = λ n e.
           let same : n ≡ first = one_element ns c.args.mine n first mine e c.index_mut.ensures.value in
           record {
-            name = ap (λ (m : Named). m.name.items) (hollowed ∙ refl) ∙ sym (ap (λ (m : Named). m.name.items) same);
-            number = ap (λ (m : Named). m.number) hollowed ∙ sym (ap (λ (m : Named). m.number) same);
+            name = ap (λ (m : SessionReplica). m.name.items) (hollowed ∙ refl) ∙ sym (ap (λ (m : SessionReplica). m.name.items) same);
+            number = ap (λ (m : SessionReplica). m.number) hollowed ∙ sym (ap (λ (m : SessionReplica). m.number) same);
             holds = λ other f V W E F written compiled h k.
                 let is : other ≡ c.index.result.now = one_element ns c.args.theirs other c.index.result.now theirs f read in
                 stands V W E F written compiled
-                (subst (λ (r : Replica). ReplicaStandsFor r V E) (ap (λ (m : Named). m.replica) same ∙ sym taken) h)
-                (subst (λ (r : Replica). ReplicaStandsFor r W F) (ap (λ (m : Named). m.replica) is) k);
+                (subst (λ (r : Replica). ReplicaStandsFor r V E) (ap (λ (m : SessionReplica). m.replica) same ∙ sym taken) h)
+                (subst (λ (r : Replica). ReplicaStandsFor r W F) (ap (λ (m : SessionReplica). m.replica) is) k);
           };
     }) c.take_news-merged.ensures

@@ -1,6 +1,6 @@
 use Rattle.std.proofs.Common.{◌≡◌, ◌++◌, length}
 use Rattle.std.specs.Vec.Iter.{into_iter_items}
-use Rattle.ws_session.specs.Standing.{labels_of, replicas_of}
+use Rattle.ws_session.specs.Representation.{labels_of, replicas_of}
 use Rattle.ws_session.proofs.taking.rejoined.Given as goal
 
 -- those so far, and those that are left, of which there are as many

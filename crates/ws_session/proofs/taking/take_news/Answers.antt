@@ -1,6 +1,6 @@
 use Rattle.std.proofs.Common.{List, ℕ, sym, subst}
 use Rattle.ws_register.specs.News.{HasNewsAt}
-use Rattle.ws_session.specs.Standing.{IsBrought}
+use Rattle.ws_session.specs.Representation.{IsBrought}
 use Rattle.ws_session.proofs.Standings.{on_ok_map}
 use Rattle.ws_session.proofs.taking.take_news.Goals as goal
 

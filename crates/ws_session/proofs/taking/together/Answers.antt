@@ -1,7 +1,7 @@
 use Rattle.std.proofs.Common.{◌≡◌, ◌<◌, ℕ, List, length, sym, subst, ◌∙◌, arith}
 use Rattle.std.specs.Prelude.{Some, vec_len}
 use Rattle.std.specs.List.{All, slice_get}
-use Rattle.ws_session.specs.Standing.{HoldsWritesOf, HoldsAllOf}
+use Rattle.ws_session.specs.Representation.{HoldsWritesOf, HoldsAllOf}
 use Rattle.ws_session.proofs.Joining.{within_all, together_stands}
 use Rattle.ws_session.proofs.KnownWrites.{known_stands}
 use Rattle.ws_session.proofs.taking.together.Goals as goal

@@ -4,7 +4,7 @@ use Rattle.std.specs.Map.{lookup}
 use Rattle.std.specs.Option.{option_map}
 use Rattle.go_text.specs.declared.fault.FaultKind.TheVariants.{Undeclared}
 use Rattle.go_expr.specs.Known.{Known, Verdict, Breaks, named}
-use Rattle.go_expr.specs.Seen.{known_of, declared_of, names_in, local_names, scope_of, AnswersAt}
+use Rattle.go_expr.specs.Views.{known_of, declared_of, names_in, local_names, scope_of, AnswersAt}
 use Rattle.go_expr.proofs.Lookups.{found_first_or, found_later_or}
 use Rattle.go_expr.proofs.scope.Scope.look_up.Goals as goal
 

@@ -1,5 +1,5 @@
 use Rattle.std.proofs.Common.{◌∙◌, ap, sym}
-use Rattle.go_link.specs.Named.{cells_of}
+use Rattle.go_link.specs.Named.{cell_count}
 use Rattle.go_link.proofs.Firsts.{its_place, no_place}
 use Rattle.go_link.proofs.places.Places.place_in.Goals as goal
 
@@ -11,5 +11,5 @@ returns-in-Some c =
 pub returns-in-None : goal.returns-in-None
 returns-in-None c =
     no_place c.args.self.now (record { path = c.args.path.now; name = c.args.name.now }) c.self.inside.cells
-    (c.self.invariant.1 ∙ ap cells_of c.self.view_is)
+    (c.self.invariant.1 ∙ ap cell_count c.self.view_is)
     (sym c.place.ensures ∙ c.in-None.is)

@@ -1,5 +1,5 @@
 use Rattle.std.proofs.Common.{◌∙◌, ◌++◌, ap}
-use Rattle.go_packed.specs.Reading.{object_of}
+use Rattle.go_packed.specs.Reading.{unpacked_object}
 use Rattle.go_packed.specs.Spelling.{object_tokens}
 use Rattle.go_packed.proofs.Back.{object_back}
 use Rattle.go_packed.proofs.Whole.{same_parts}
@@ -7,7 +7,7 @@ use Rattle.go_packed.proofs.packed.Packed.of.Goals as goal
 
 pub returns : goal.returns
 returns c =
-    ap object_of (
+    ap unpacked_object (
     same_parts (c.in_ok-names.ensures ∙ c.all.ensures) c.shrink_to_fit-2.ensures.items c.shrink_to_fit-3.ensures.items c.shrink_to_fit-4.ensures.items c.shrink_to_fit-5.ensures.items
     c.shrink_to_fit.ensures.items
     ∙ c.sink.view_is ∙ c.in_ok-put_object.ensures ∙ ap (λ l. l ++ object_tokens c.args.object.now) c.new-sink.ensures)

@@ -1,6 +1,6 @@
 use Rattle.std.proofs.Common.{◌≡◌, ◌+◌, ◌-◌, ◌*◌, ◌≤◌, List, [], map, Option}
 use Rattle.go_ast.specs.Trees as trees
-use Rattle.go_ast.specs.Machine.{State, suffixes, tails, list_start, fields, arguments, elements, run}
+use Rattle.go_ast.specs.Machine.{Reader, suffixes, tails, list_start, fields, arguments, elements, run_parser}
 use Rattle.go_ast.specs.Views.{expr_of, field_of, element_of}
 use Rattle.go_pexpr.specs.Reads.{left, size}
 use Rattle.go_pexpr.specs.Tall.{fields_tall, exprs_tall, elements_tall}
@@ -42,8 +42,8 @@ decreases-operators l = 16 * size l.self.now + 1
 
 abbrev pub invariant-operators-operators : goal.invariant-operators-operators
 invariant-operators-operators l = record {
-  reads : (next : trees.Expr → State) →
-      run l.fn.self.edition 250 (tails l.limit l.header l.level next (expr_of l.fn.front.expr)) (left l.fn.self) ≡ run l.self.edition 250 (followed l.tightest (l.limit - l.tightest) l.header l.level next (expr_of l.left.expr)) (left l.self);
+  reads : (next : trees.Expression → Reader) →
+      run_parser l.fn.self.edition 250 (tails l.limit l.header l.level next (expr_of l.fn.front.expr)) (left l.fn.self) ≡ run_parser l.self.edition 250 (followed l.tightest (l.limit - l.tightest) l.header l.level next (expr_of l.left.expr)) (left l.self);
   within : l.tightest ≤ l.limit;
   fits : l.level + l.left.height ≤ 251;
   shorter : size l.self ≤ size l.fn.self;
@@ -54,7 +54,7 @@ decreases-operators-operators l = size l.self
 
 abbrev pub invariant-fields-fields : goal.invariant-fields-fields
 invariant-fields-fields l = record {
-  reads : (next : List (List trees.Name × trees.TypeExpr) → State) → run l.fn.self.edition 250 (list_start (fields l.level) [] (λ fs _. next fs)) (left l.fn.self) ≡ run l.self.edition 250 (list_start (fields l.level) (map field_of l.items.items) (λ fs _. next fs)) (left l.self);
+  reads : (next : List (List trees.Name × trees.TypeExpr) → Reader) → run_parser l.fn.self.edition 250 (list_start (fields l.level) [] (λ fs _. next fs)) (left l.fn.self) ≡ run_parser l.self.edition 250 (list_start (fields l.level) (map field_of l.items.items) (λ fs _. next fs)) (left l.self);
   counted : l.height ≡ fields_tall l.items.items;
   fits : l.level + l.height ≤ 251;
   shorter : size l.self ≤ size l.fn.self;
@@ -77,7 +77,7 @@ decreases-arguments l = 16 * size l.self.now + 12
 
 abbrev pub invariant-suffixes-suffixes : goal.invariant-suffixes-suffixes
 invariant-suffixes-suffixes l = record {
-  reads : (next : trees.Expr → State) → run l.fn.self.edition 250 (suffixes l.header l.level (expr_of l.fn.operand.expr) next) (left l.fn.self) ≡ run l.self.edition 250 (suffixes l.header l.level (expr_of l.front.expr) next) (left l.self);
+  reads : (next : trees.Expression → Reader) → run_parser l.fn.self.edition 250 (suffixes l.header l.level (expr_of l.fn.operand.expr) next) (left l.fn.self) ≡ run_parser l.self.edition 250 (suffixes l.header l.level (expr_of l.front.expr) next) (left l.self);
   fits : l.level + l.front.height ≤ 251;
   shorter : size l.self ≤ size l.fn.self;
 }
@@ -87,7 +87,7 @@ decreases-suffixes-suffixes l = size l.self
 
 abbrev pub invariant-arguments-arguments : goal.invariant-arguments-arguments
 invariant-arguments-arguments l = record {
-  reads : (next : List trees.Expr → State) → run l.fn.self.edition 250 (list_start (arguments l.level) (map expr_of l.fn.front.items.items) (λ es _. next es)) (left l.fn.self) ≡ run l.self.edition 250 (list_start (arguments l.level) (map expr_of l.items.items) (λ es _. next es)) (left l.self);
+  reads : (next : List trees.Expression → Reader) → run_parser l.fn.self.edition 250 (list_start (arguments l.level) (map expr_of l.fn.front.items.items) (λ es _. next es)) (left l.fn.self) ≡ run_parser l.self.edition 250 (list_start (arguments l.level) (map expr_of l.items.items) (λ es _. next es)) (left l.self);
   counted : l.height ≡ exprs_tall l.items.items;
   fits : l.level + l.height ≤ 251;
   shorter : size l.self ≤ size l.fn.self;
@@ -110,7 +110,7 @@ decreases-value l = 16 * size l.self.now + 11
 
 abbrev pub invariant-elements-elements : goal.invariant-elements-elements
 invariant-elements-elements l = record {
-  reads : (next : List (Option trees.Name × trees.Element) → State) → run l.fn.self.edition 250 (list_start (elements l.level) [] (λ es _. next es)) (left l.fn.self) ≡ run l.self.edition 250 (list_start (elements l.level) (map element_of l.items.items) (λ es _. next es)) (left l.self);
+  reads : (next : List (Option trees.Name × trees.Element) → Reader) → run_parser l.fn.self.edition 250 (list_start (elements l.level) [] (λ es _. next es)) (left l.fn.self) ≡ run_parser l.self.edition 250 (list_start (elements l.level) (map element_of l.items.items) (λ es _. next es)) (left l.self);
   counted : l.height ≡ elements_tall l.items.items;
   fits : (l.level ≤ 251) → l.level + l.height ≤ 251;
   shorter : size l.self ≤ size l.fn.self;

@@ -3,7 +3,7 @@ use Rattle.std.specs.Prelude.{slice_index_or}
 use Rattle.std.proofs.lemmas.List.Elements.{All-tail, All-same}
 use Rattle.go_scan.specs.declared.token.Token.{Token}
 use Rattle.go_scan.specs.declared.token.TokenKind.TheVariants as kinds
-use Rattle.go_ast.specs.Machine.{token, Refused, run}
+use Rattle.go_ast.specs.Machine.{token, Refused, run_parser}
 use Rattle.go_ast.specs.Tokens.{LiesIn}
 use Rattle.go_ast.specs.Tokens.{lexeme, lexemes}
 use Rattle.go_pexpr.specs.Reads.{First, fault_of, left, expected_of}
@@ -40,7 +40,7 @@ returns-then-need-gt-LEVELS-clause-reads c = λ next.
     let text = c.args.self.now.text.now in
     let some = ap (lexemes text) (first_and_rest ts _ c.in-len1-up.len_at_least) in
     record {
-      by = ap (run c.args.self.now.edition 250 (token c.args.kind c.args.need (expected_of c.args.expected) next)) some
+      by = ap (run_parser c.args.self.now.edition 250 (token c.args.kind c.args.need (expected_of c.args.expected) next)) some
           ∙ token_deep c.args.self.now.edition c.args.kind c.args.need (expected_of c.args.expected) next (lexeme text (first ts)) (lexemes text (rest ts)) (c.if-not-is_kind.ensures.0 refl) (omega (arith, c.if-need-gt-LEVELS.true))
           ∙ ap (Refused 4) (sym some);
     }
@@ -51,7 +51,7 @@ returns-clause-reads c = λ next.
     let text = c.args.self.now.text.now in
     let some = ap (lexemes text) (first_and_rest ts _ c.in-len1-up.len_at_least) in
     record {
-      by = ap (run c.args.self.now.edition 250 (token c.args.kind c.args.need (expected_of c.args.expected) next)) some
+      by = ap (run_parser c.args.self.now.edition 250 (token c.args.kind c.args.need (expected_of c.args.expected) next)) some
           ∙ token_takes c.args.self.now.edition c.args.kind c.args.need (expected_of c.args.expected) next (lexeme text (first ts)) (lexemes text (rest ts)) (c.if-not-is_kind.ensures.0 refl) (omega (arith, c.if-need-gt-LEVELS.false));
     }
 

@@ -2,7 +2,7 @@ use Rattle.std.proofs.Common.{◌≡◌, ℕ, Bool, List, [], ◌∷◌, ◌++�
 use Rattle.go_ast.specs.Expected.{an_operand}
 use Rattle.go_ast.specs.Trees as trees
 use Rattle.go_ast.specs.Grammar.{Lexeme}
-use Rattle.go_ast.specs.Machine.{State, expr, more_exprs, run}
+use Rattle.go_ast.specs.Machine.{Reader, expr, more_exprs, run_parser}
 use Rattle.go_ast.specs.Views.{expr_of}
 use Rattle.go_pexpr.specs.Reads.{left}
 use Rattle.go_pexpr.proofs.Pushed.{map_push}
@@ -14,10 +14,10 @@ false_true : false ≡ true → ⊥
 false_true e = cc (e)
 
 -- behind some expressions and a comma, and behind one more
-abbrev behind : Bool → ℕ → List trees.Expr → (List trees.Expr → State) → trees.Expr → State
+abbrev behind : Bool → ℕ → List trees.Expression → (List trees.Expression → Reader) → trees.Expression → Reader
 behind h l front next e = more_exprs h l (front ++ e ∷ []) next
 
-abbrev behind_comma : Bool → ℕ → List trees.Expr → (List trees.Expr → State) → Lexeme → State
+abbrev behind_comma : Bool → ℕ → List trees.Expression → (List trees.Expression → Reader) → Lexeme → Reader
 behind_comma h l front next t = expr 5 h l an_operand (behind h l front next)
 
 pub returns-in_err-expect-clause-reads : goal.returns-in_err-expect-clause-reads
@@ -43,7 +43,7 @@ exprs-preserved c =
           c.exprs.invariant.reads next ∙ more_exprs_takes c.exprs.self.edition c.args.header c.args.level front next (left c.exprs.self) (c.exprs-test.ensures.0 refl)
           ∙ (c.in_ok-expect.ensures.reads (behind_comma c.args.header c.args.level front next)).by
           ∙ (c.in_ok-expr_from.ensures.reads (behind c.args.header c.args.level front next)).by
-          ∙ ap (λ es. run c.expr_from.new.self.edition 250 (more_exprs c.args.header c.args.level es next) (left c.expr_from.new.self)) (sym all);
+          ∙ ap (λ es. run_parser c.expr_from.new.self.edition 250 (more_exprs c.args.header c.args.level es next) (left c.expr_from.new.self)) (sym all);
       no_longer = omega (arith, c.exprs.invariant.no_longer, c.in_ok-expect.ensures.shorter, c.in_ok-expr_from.ensures.shorter);
     }
 

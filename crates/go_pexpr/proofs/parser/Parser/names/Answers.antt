@@ -2,7 +2,7 @@ use Rattle.std.proofs.Common.{◌≡◌, [], ◌∷◌, ◌++◌, true, false, r
 use Rattle.go_scan.specs.declared.token.TokenKind.TheVariants as kinds
 use Rattle.go_ast.specs.Expected.{another}
 use Rattle.go_ast.specs.Grammar.{name_of}
-use Rattle.go_ast.specs.Machine.{token, more_names, run}
+use Rattle.go_ast.specs.Machine.{token, more_names, run_parser}
 use Rattle.go_pexpr.specs.Reads.{left}
 use Rattle.go_pexpr.proofs.Reading.{then_fails}
 use Rattle.go_pexpr.proofs.Turns.{more_names_takes, more_names_end}
@@ -33,7 +33,7 @@ names-preserved c =
           c.names.invariant.reads next ∙ more_names_takes c.names.self.edition front next (left c.names.self) (c.names-test.ensures.0 refl)
           ∙ (c.in_ok-expect.ensures.reads (λ _. token kinds.Name 0 another (λ n. more_names (front ++ name_of n ∷ []) next))).by
           ∙ (c.in_ok-name-2.ensures.reads (λ n. more_names (front ++ name_of n ∷ []) next)).by
-          ∙ ap (λ ns. run c.name-in-names.new.self.edition 250 (more_names ns next) (left c.name-in-names.new.self)) (sym c.in_ok-push-2.ensures.items);
+          ∙ ap (λ ns. run_parser c.name-in-names.new.self.edition 250 (more_names ns next) (left c.name-in-names.new.self)) (sym c.in_ok-push-2.ensures.items);
       fits = c.names.invariant.fits;
       shorter = omega (arith, c.names.invariant.shorter, c.in_ok-expect.ensures.shorter, c.in_ok-name-2.ensures.shorter);
     }

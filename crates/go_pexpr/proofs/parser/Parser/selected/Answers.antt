@@ -2,12 +2,12 @@ use Rattle.std.proofs.Common.{refl, ap, ◌∙◌}
 use Rattle.std.proofs.lemmas.Result.{IfOk-weaker}
 use Rattle.go_ast.specs.Trees as trees
 use Rattle.go_ast.specs.Grammar.{Lexeme, name_of}
-use Rattle.go_ast.specs.Machine.{State}
+use Rattle.go_ast.specs.Machine.{Reader}
 use Rattle.go_ast.specs.Views.{expr_of}
 use Rattle.go_pexpr.proofs.Reading.{then_fails, then_makes, was_read, was_failing}
 use Rattle.go_pexpr.proofs.parser.Parser.selected.Goals as goal
 
-abbrev behind_name : (trees.Expr → State) → trees.Expr → Lexeme → State
+abbrev behind_name : (trees.Expression → Reader) → trees.Expression → Lexeme → Reader
 behind_name next e t = next (trees.selector (trees.place_of e) e (name_of t))
 
 pub returns-in_err-operand-clause-reads : goal.returns-in_err-operand-clause-reads

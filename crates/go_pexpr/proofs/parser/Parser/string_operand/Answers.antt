@@ -1,16 +1,16 @@
 use Rattle.std.proofs.Common.{sym, ap, ◌∙◌}
 use Rattle.go_ast.specs.Trees as trees
 use Rattle.go_ast.specs.Literals.{string_value}
-use Rattle.go_ast.specs.Machine.{run}
-use Rattle.go_ast.specs.Tokens.{bytes_of}
+use Rattle.go_ast.specs.Machine.{run_parser}
+use Rattle.go_ast.specs.Tokens.{lexeme_bytes}
 use Rattle.go_pexpr.specs.Reads.{left}
 use Rattle.go_pexpr.proofs.parser.Parser.string_operand.Goals as goal
 
 pub returns-clause-reads : goal.returns-clause-reads
 returns-clause-reads c = λ next.
     let token = c.in_ok-token.token in
-    let seen = c.string.ensures.expr ∙ ap (trees.string token.place) (c.in_ok-value.ensures ∙ ap string_value (c.spelling.ensures ∙ ap (λ text. bytes_of text token) c.in_ok-token.ensures.text)) in
+    let seen = c.string.ensures.expr ∙ ap (trees.string token.place) (c.in_ok-value.ensures ∙ ap string_value (c.spelling.ensures ∙ ap (λ text. lexeme_bytes text token) c.in_ok-token.ensures.text)) in
     record {
       by = (c.in_ok-token.ensures.reads (λ t. next (trees.string t.place (string_value t.text)))).by
-          ∙ ap (λ e. run c.expect.new.self.edition 250 (next e) (left c.expect.new.self)) (sym seen);
+          ∙ ap (λ e. run_parser c.expect.new.self.edition 250 (next e) (left c.expect.new.self)) (sym seen);
     }

@@ -2,7 +2,7 @@ use Rattle.std.proofs.Common.{◌≡◌, Some, None, Option, List, length, arith
 use Rattle.std.specs.Prelude.{OnOk}
 use Rattle.std.specs.Option.{option_map}
 use Rattle.go_scope.specs.Scopes.{declare}
-use Rattle.go_types.specs.Views.{type_of}
+use Rattle.go_types.specs.Views.{go_type}
 use Rattle.go_types.specs.declared.types.GoType.{GoType}
 use Rattle.go_expr.specs.declared.known.Declared.TheVariants.{Local}
 use Rattle.go_stmt.specs.Scopes.{declare_variable}
@@ -17,7 +17,7 @@ returns-in-None c =
     mapped_ok c.declared.result
     (λ h. (let new : c.declare.new.self ≡ declare names x None = subst (λ r. OnOk r (c.declare.new.self ≡ declare names c.text.result.now None)) h c.declare.ensures.ok ∙ ap (λ x. declare names x None) c.text.ensures in
     new_unknown names c.declare.new.self types x new
-    ∙ ap (λ (o : Option GoType). declare_variable x (option_map type_of o) (shown names types)) (sym c.in-None.is)))
+    ∙ ap (λ (o : Option GoType). declare_variable x (option_map go_type o) (shown names types)) (sym c.in-None.is)))
     c.declared.ensures
 
 pub returns-in_ok-push-in-Some : goal.returns-in_ok-push-in-Some
@@ -37,5 +37,5 @@ returns-in_ok-push-in-Some c =
     ∙ ap (λ k. declare names x (Some (Local copy k))) size in
     ap (λ (l : List GoType). shown there l) c.in_ok-push-in-Some.ensures.items
     ∙ new_variable names there types x of copy c.in_ok-copy-in-Some.ensures new
-    ∙ ap (λ (o : Option GoType). declare_variable x (option_map type_of o) (shown names types)) (sym c.in-Some.is)))
+    ∙ ap (λ (o : Option GoType). declare_variable x (option_map go_type o) (shown names types)) (sym c.in-Some.is)))
     c.declared-in-Some.ensures

@@ -1,5 +1,5 @@
 use Rattle.std.proofs.Common.{◌++◌, ap, ◌∙◌}
-use Rattle.go_expr.specs.Seen.{names_in}
+use Rattle.go_expr.specs.Views.{names_in}
 use Rattle.go_stmt.proofs.Lookups.{locals_shown}
 use Rattle.go_stmt.proofs.env.Env.scope.Goals as goal
 

@@ -1,6 +1,6 @@
 use Rattle.std.proofs.Common.{refl}
 use Rattle.ws_board.specs.declared.table.Row.{Row}
-use Rattle.ws_board.specs.declared.work.Status.TheVariants.{Ready}
+use Rattle.ws_board.specs.declared.work.JobStatus.TheVariants.{Ready}
 use Rattle.ws_board.specs.Table.{given_back}
 use Rattle.ws_board.proofs.Standing.{opens_written}
 use Rattle.ws_board.proofs.table.Table.give_back.Goals as goal

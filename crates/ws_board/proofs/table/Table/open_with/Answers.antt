@@ -3,7 +3,7 @@ use Rattle.std.proofs.Math.ListN.{set}
 use Rattle.std.proofs.lemmas.List.{get_or_read}
 use Rattle.ws_board.specs.declared.table.Row.{Row}
 use Rattle.ws_board.specs.Machine.{is_open}
-use Rattle.ws_board.specs.Table.{blank, row_at, standings_of}
+use Rattle.ws_board.specs.Table.{blank, row_at, job_states_of}
 use Rattle.ws_board.proofs.Standing.{opens_stood, opens_some, opens_few}
 use Rattle.ws_board.proofs.table.Table.open_with.Goals as goal
 
@@ -29,5 +29,5 @@ returns c =
     let row : c.index.result.now ≡ row_at R k = get_or_read R _ _ inside c.index.ensures blank in
     let was : ◌≡◌ {A = ℕ} (cond c.is_open.result 1 0) (cond (is_open (row_at R k).status) 1 0) = ap (λ b. cond b 1 0) (c.is_open.ensures ∙ ap (λ (r : Row). is_open r.status) row) in
     let now : ◌≡◌ {A = ℕ} (cond c.is_open-2.result 1 0) (cond (is_open c.args.status) 1 0) = ap (λ b. cond b 1 0) c.is_open-2.ensures in
-    let count : c.recounted.result ≡ count_by is_open (set (standings_of R).statuses k c.args.status) = omega (arith, opens_stood R k c.args.status inside, c.recounted.ensures, c.self.invariant, was, now) in
-    count ∙ ap (λ (l : List Row). count_by is_open (set (standings_of l).statuses k c.args.status)) c.self.view_is
+    let count : c.recounted.result ≡ count_by is_open (set (job_states_of R).statuses k c.args.status) = omega (arith, opens_stood R k c.args.status inside, c.recounted.ensures, c.self.invariant, was, now) in
+    count ∙ ap (λ (l : List Row). count_by is_open (set (job_states_of l).statuses k c.args.status)) c.self.view_is

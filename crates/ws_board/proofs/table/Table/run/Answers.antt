@@ -1,6 +1,6 @@
 use Rattle.std.proofs.Common.{refl}
 use Rattle.ws_board.specs.declared.table.Row.{Row}
-use Rattle.ws_board.specs.declared.work.Status.TheVariants.{Running}
+use Rattle.ws_board.specs.declared.work.JobStatus.TheVariants.{Running}
 use Rattle.ws_board.specs.Table.{given_to}
 use Rattle.ws_board.proofs.Standing.{opens_written}
 use Rattle.ws_board.proofs.table.Table.run.Goals as goal

@@ -7,7 +7,7 @@ use Rattle.go_scan.specs.declared.keyword.Keyword.TheVariants as keywords
 use Rattle.go_ast.specs.Trees as trees
 use Rattle.go_ast.specs.Expected.{another}
 use Rattle.go_ast.specs.Grammar.{type_place, opening, opening_bracket}
-use Rattle.go_ast.specs.Machine.{expr, list_start, arguments, keyword, run, type, operands, behind_operand, behind_operand_type}
+use Rattle.go_ast.specs.Machine.{expr, list_start, arguments, keyword, run_parser, behind_operand, behind_operand_type}
 use Rattle.go_ast.specs.Views.{type_of, expr_of, element_of}
 use Rattle.go_pexpr.specs.Turns.{behind_conversion}
 use Rattle.go_pexpr.specs.Reads.{left}
@@ -29,7 +29,7 @@ operands-returns-then-is_next-clause-reads t c = λ next.
     record {
       by = operands_close c.args.self.now.edition c.args.level (λ es _. next es) (left c.args.self.now) (c.if-is_next.ensures.0 refl)
           ∙ (c.in_ok-expect.ensures.reads (λ _. next [])).by
-          ∙ ap (λ es. run c.expect.new.self.edition 250 (next (map expr_of es)) (left c.expect.new.self)) (sym c.no_arguments.ensures.items);
+          ∙ ap (λ es. run_parser c.expect.new.self.edition 250 (next (map expr_of es)) (left c.expect.new.self)) (sym c.no_arguments.ensures.items);
     }
 
 pub operands-returns-in_err-first-clause-reads : goal.operands-returns-in_err-first-clause-reads
@@ -51,7 +51,7 @@ operands-returns-clause-reads t c = λ next.
     then_reads c.arguments.result
     ((c.in_ok-first.ensures.reads (λ es _. next es) (λ h. false_true (c.if-is_next.ensures.1 h))).by
     ∙ was_read (c.separate.ensures.reads (arguments l) (e ∷ []) (λ es _. next es) refl refl) c.in_ok-operand.ensures.read
-    ∙ ap (λ es. run c.separate.new.self.edition 250 (list_start (arguments l) es (λ fs _. next fs)) (left c.separate.new.self)) (sym same))
+    ∙ ap (λ es. run_parser c.separate.new.self.edition 250 (list_start (arguments l) es (λ fs _. next fs)) (left c.separate.new.self)) (sym same))
     (c.arguments.ensures.reads next)
 
 -- the first of them
@@ -142,7 +142,7 @@ literal_operand-returns-clause-reads t c = λ next.
     let made = c.in_ok-literal.ensures.expr ∙ ap (λ b. trees.composite_lit (type_place b) b q (trees.pack_elements es)) same in
     then_reads c.behind.result
     (was_read (c.braced.ensures.reads (literal_front l next a)) c.in_ok-of.ensures.read
-    ∙ ap (λ e. run c.braced.new.self.edition 250 (behind_operand 5 false l next e) (left c.braced.new.self)) (sym made))
+    ∙ ap (λ e. run_parser c.braced.new.self.edition 250 (behind_operand 5 false l next e) (left c.braced.new.self)) (sym made))
     (c.behind.ensures.reads next)
 
 pub converted_operand-returns-then-not-is_next-clause-reads : goal.converted_operand-returns-then-not-is_next-clause-reads
@@ -170,5 +170,5 @@ converted_operand-returns-clause-reads t c = λ next.
     then_reads c.behind.result
     (optional_some c.args.self.now.edition opening (l + c.args.a.height) another (behind_conversion l (converted_front l next a)) (next (trees.type_operand (type_place a) a)) (left c.args.self.now) (c.if-not-is_next.ensures.0 refl)
     ∙ was_read (c.converted.ensures.reads (converted_front l next a)) c.in_ok-to.ensures.read
-    ∙ ap (λ e. run c.converted.new.self.edition 250 (behind_operand 5 false l next e) (left c.converted.new.self)) (sym made))
+    ∙ ap (λ e. run_parser c.converted.new.self.edition 250 (behind_operand 5 false l next e) (left c.converted.new.self)) (sym made))
     (c.behind.ensures.reads next)

@@ -6,10 +6,10 @@ use Rattle.go_ast.specs.declared.expression.Expr.{Expr}
 use Rattle.go_ast.specs.declared.expression.Field.{Field}
 use Rattle.go_ast.specs.Expected.{an_operand, another}
 use Rattle.go_ast.specs.Grammar.{opening_brace}
-use Rattle.go_ast.specs.Machine.{expr, names, list_start, fields, arguments, elements, run}
+use Rattle.go_ast.specs.Machine.{expr, names, list_start, fields, arguments, elements, run_parser}
 use Rattle.go_ast.specs.Views.{type_of, expr_of, field_of, element_of, value_of}
 use Rattle.go_pexpr.specs.Tall.{fields_tall, exprs_tall, elements_tall}
-use Rattle.go_pexpr.specs.Turns.{behind_value, behind_first, behind_last, value_at}
+use Rattle.go_pexpr.specs.Turns.{behind_value, behind_first, behind_last, read_value}
 use Rattle.go_pexpr.specs.Reads.{left}
 use Rattle.go_pexpr.proofs.Pushed.{map_push, fields_push, exprs_push, elements_push}
 use Rattle.go_pexpr.proofs.ElementTurns.{no_colon_ends, key_takes}
@@ -51,7 +51,7 @@ fields-fields-preserved t c =
           ∙ list_item c.fields.self.edition (fields l) front (λ fs _. next fs) (names l (field_type l next front)) (left c.fields.self) (λ u. refl) refl (λ h. false_true (c.fields-test.ensures.1 h))
           ∙ (c.in_ok-names.ensures.reads (field_end l next front)).by
           ∙ (c.in_ok-separate.ensures.reads (fields l) more (λ fs _. next fs) refl refl).by
-          ∙ ap (λ fs. run c.separate.new.self.edition 250 (list_start (fields l) fs (λ gs _. next gs)) (left c.separate.new.self)) (sym (ap (λ fs. map field_of fs) c.in_ok-push.ensures.items ∙ map_push field_of c.fields.items.items f));
+          ∙ ap (λ fs. run_parser c.separate.new.self.edition 250 (list_start (fields l) fs (λ gs _. next gs)) (left c.separate.new.self)) (sym (ap (λ fs. map field_of fs) c.in_ok-push.ensures.items ∙ map_push field_of c.fields.items.items f));
       counted = omega (arith, ap (λ fs. fields_tall fs) c.in_ok-push.ensures.items, fields_push c.fields.items.items f, c.fields.invariant.counted, c.in_ok-names.item.counted);
       fits = omega (arith, c.in_ok-names.ensures.fits, c.fields.invariant.fits);
       shorter = omega (arith, c.fields.invariant.shorter, c.in_ok-names.ensures.shorter, c.in_ok-separate.ensures.no_longer);
@@ -69,7 +69,7 @@ fields-returns-clause-reads t c = λ next.
     record {
       by = c.fields.invariant.reads next ∙ list_closes c.fields.self.edition (fields c.args.level) front (λ fs _. next fs) (left c.fields.self) (c.fields-test.ensures.0 refl)
           ∙ (c.in_ok-expect.ensures.reads (λ _. next front)).by
-          ∙ ap (λ (xs : List Field). run c.expect.new.self.edition 250 (next (map field_of xs)) (left c.expect.new.self)) (sym c.shrink_to_fit.ensures.items);
+          ∙ ap (λ (xs : List Field). run_parser c.expect.new.self.edition 250 (next (map field_of xs)) (left c.expect.new.self)) (sym c.shrink_to_fit.ensures.items);
     }
 
 -- arguments
@@ -106,7 +106,7 @@ arguments-arguments-preserved t c =
           ∙ list_item c.arguments.self.edition (arguments l) front (λ es _. next es) (expr 5 false l an_operand (argument_end l next front)) (left c.arguments.self) (λ u. refl) refl (λ h. false_true (c.arguments-test.ensures.1 h))
           ∙ (c.in_ok-item.ensures.reads (argument_end l next front)).by
           ∙ (c.in_ok-separate.ensures.reads (arguments l) (front ++ expr_of e ∷ []) (λ es _. next es) refl refl).by
-          ∙ ap (λ es. run c.separate.new.self.edition 250 (list_start (arguments l) es (λ fs _. next fs)) (left c.separate.new.self)) (sym (ap (λ es. map expr_of es) c.in_ok-push.ensures.items ∙ map_push expr_of c.arguments.items.items e));
+          ∙ ap (λ es. run_parser c.separate.new.self.edition 250 (list_start (arguments l) es (λ fs _. next fs)) (left c.separate.new.self)) (sym (ap (λ es. map expr_of es) c.in_ok-push.ensures.items ∙ map_push expr_of c.arguments.items.items e));
       counted = omega (arith, ap (λ es. exprs_tall es) c.in_ok-push.ensures.items, exprs_push c.arguments.items.items e, c.arguments.invariant.counted, c.in_ok-item.item.counted);
       fits = omega (arith, c.in_ok-item.ensures.fits, c.arguments.invariant.fits);
       shorter = omega (arith, c.arguments.invariant.shorter, c.in_ok-item.ensures.shorter, c.in_ok-separate.ensures.no_longer);
@@ -124,7 +124,7 @@ arguments-returns-clause-reads t c = λ next.
     record {
       by = c.arguments.invariant.reads next ∙ list_closes c.arguments.self.edition (arguments c.args.level) front (λ es _. next es) (left c.arguments.self) (c.arguments-test.ensures.0 refl)
           ∙ (c.in_ok-expect.ensures.reads (λ _. next front)).by
-          ∙ ap (λ (xs : List Expr). run c.expect.new.self.edition 250 (next (map expr_of xs)) (left c.expect.new.self)) (sym c.shrink_to_fit.ensures.items);
+          ∙ ap (λ (xs : List Expr). run_parser c.expect.new.self.edition 250 (next (map expr_of xs)) (left c.expect.new.self)) (sym c.shrink_to_fit.ensures.items);
     }
 
 -- elements of a literal
@@ -158,7 +158,7 @@ elements-elements-preserved t c =
           ∙ list_item c.elements.self.edition (elements l) front (λ es _. next es) (element_next l front next) (left c.elements.self) (λ u. refl) refl (λ h. false_true (c.elements-test.ensures.1 h))
           ∙ (c.in_ok-item.ensures.reads front (λ es _. next es)).by
           ∙ (c.in_ok-separate.ensures.reads (elements l) (front ++ element_of e ∷ []) (λ es _. next es) refl refl).by
-          ∙ ap (λ es. run c.separate.new.self.edition 250 (element_end l es next) (left c.separate.new.self)) (sym (ap (λ es. map element_of es) c.in_ok-push.ensures.items ∙ map_push element_of c.elements.items.items e));
+          ∙ ap (λ es. run_parser c.separate.new.self.edition 250 (element_end l es next) (left c.separate.new.self)) (sym (ap (λ es. map element_of es) c.in_ok-push.ensures.items ∙ map_push element_of c.elements.items.items e));
       counted = omega (arith, ap (λ es. elements_tall es) c.in_ok-push.ensures.items, elements_push c.elements.items.items e, c.elements.invariant.counted, c.in_ok-item.item.counted);
       fits = λ h. omega (arith, c.in_ok-item.ensures.fits, c.elements.invariant.fits h);
       shorter = omega (arith, c.elements.invariant.shorter, c.in_ok-item.ensures.shorter, c.in_ok-separate.ensures.no_longer);
@@ -176,7 +176,7 @@ elements-returns-clause-reads t c = λ next.
     record {
       by = c.elements.invariant.reads next ∙ list_closes c.elements.self.edition (elements c.args.level) front (λ es _. next es) (left c.elements.self) (c.elements-test.ensures.0 refl)
           ∙ (c.in_ok-expect.ensures.reads (λ _. next front)).by
-          ∙ ap (λ (xs : List Element). run c.expect.new.self.edition 250 (next (map element_of xs)) (left c.expect.new.self)) (sym c.shrink_to_fit.ensures.items);
+          ∙ ap (λ (xs : List Element). run_parser c.expect.new.self.edition 250 (next (map element_of xs)) (left c.expect.new.self)) (sym c.shrink_to_fit.ensures.items);
     }
 
 -- an element
@@ -188,7 +188,7 @@ element-returns-then-not-is_next-clause-reads t c = λ front next.
     record {
       by = (c.in_ok-first.ensures.reads (behind_first l front next)).by
           ∙ no_colon_ends c.value.new.self.edition l front next (value_of c.in_ok-first.first.value) ts (λ h. false_true (c.if-not-is_next.ensures.1 h))
-          ∙ ap (λ e. run c.value.new.self.edition 250 (pushed l front next e) ts) (sym c.element.ensures.element);
+          ∙ ap (λ e. run_parser c.value.new.self.edition 250 (pushed l front next e) ts) (sym c.element.ensures.element);
     }
 
 pub element-returns-in_err-key-in-Ok-clause-reads : goal.element-returns-in_err-key-in-Ok-clause-reads
@@ -214,7 +214,7 @@ element-returns-in_ok-key-in-Ok-clause-reads t c = λ front next.
 
 pub keyed-returns-clause-reads : goal.keyed-returns-clause-reads
 keyed-returns-clause-reads t c = λ next.
-    then_reads c.value.result (c.in_ok-expect.ensures.reads (λ _. value_at c.args.level next)).by (c.value.ensures.reads next)
+    then_reads c.value.result (c.in_ok-expect.ensures.reads (λ _. read_value c.args.level next)).by (c.value.ensures.reads next)
 
 -- the value of an element
 
@@ -230,7 +230,7 @@ value-returns-then-is_next-clause-reads t c = λ next.
     record {
       by = optional_some c.args.self.now.edition opening_brace l another (behind_value l next) (expr 5 false l an_operand (value_alone next)) (left c.args.self.now) (c.if-is_next.ensures.0 refl)
           ∙ (c.in_ok-place.ensures.reads (value_braces next)).by
-          ∙ ap (λ v. run c.braced.new.self.edition 250 (next v) (left c.braced.new.self)) (sym c.braced_value.ensures.value);
+          ∙ ap (λ v. run_parser c.braced.new.self.edition 250 (next v) (left c.braced.new.self)) (sym c.braced_value.ensures.value);
     }
 
 pub value-returns-in_err-expr-clause-reads : goal.value-returns-in_err-expr-clause-reads
@@ -245,5 +245,5 @@ value-returns-clause-reads t c = λ next.
     record {
       by = optional_none c.args.self.now.edition opening_brace l (behind_value l next) (expr 5 false l an_operand (value_alone next)) (left c.args.self.now) (λ h. false_true (c.if-is_next.ensures.1 h))
           ∙ (c.in_ok-expr.ensures.reads (value_alone next)).by
-          ∙ ap (λ v. run c.binary.new.self.edition 250 (next v) (left c.binary.new.self)) (sym c.expression_value.ensures.value);
+          ∙ ap (λ v. run_parser c.binary.new.self.edition 250 (next v) (left c.binary.new.self)) (sym c.expression_value.ensures.value);
     }

@@ -8,7 +8,7 @@ use Rattle.go_scan.specs.declared.keyword.Keyword.TheVariants as keywords
 use Rattle.go_ast.specs.Trees as trees
 use Rattle.go_ast.specs.Expected.{an_operand, another}
 use Rattle.go_ast.specs.Grammar.{type_place, opening, opening_bracket, opening_brace}
-use Rattle.go_ast.specs.Machine.{token, expr, suffixes, list_start, elements, keyword, behind_literal_type, run, type, operands}
+use Rattle.go_ast.specs.Machine.{token, expr, suffixes, list_start, elements, keyword, behind_literal_type, run_parser}
 use Rattle.go_ast.specs.Views.{type_of, expr_of, element_of}
 use Rattle.go_pexpr.specs.Turns.{behind_brace}
 use Rattle.go_pexpr.specs.Reads.{left, size, expected_of}
@@ -33,7 +33,7 @@ binary-returns-clause-reads t c = λ next.
     then_reads c.operators.result
     (splits_all c.args.self.now.edition n h l (expected_of c.args.expected) next (left c.args.self.now)
     ∙ (c.in_ok-front.ensures.reads (λ a. followed 0 (n - 0) h l next a)).by
-    ∙ ap (λ s. run c.unary.new.self.edition 250 s (left c.unary.new.self)) (sym (tails_all n h l next (expr_of c.in_ok-front.front.expr))))
+    ∙ ap (λ s. run_parser c.unary.new.self.edition 250 s (left c.unary.new.self)) (sym (tails_all n h l next (expr_of c.in_ok-front.front.expr))))
     (c.operators.ensures.reads next)
 
 pub operators-operators-init : goal.operators-operators-init
@@ -41,7 +41,7 @@ operators-operators-init t c =
     let n = c.args.limit in
     record {
       reads = λ next.
-          ap (λ s. run c.args.self.now.edition 250 s (left c.args.self.now)) (tails_all n c.args.header c.args.level next (expr_of c.args.front.expr));
+          ap (λ s. run_parser c.args.self.now.edition 250 s (left c.args.self.now)) (tails_all n c.args.header c.args.level next (expr_of c.args.front.expr));
       within = omega arith;
       fits = c.requires.fits;
       shorter = omega arith;
@@ -73,7 +73,7 @@ operators-operators-preserved t c =
       reads = λ next.
           c.operators.invariant.reads next ∙ operator_due c.operators.self.edition c.operators.tightest c.args.limit j c.operators.left.height h l a next ts op q c.tighter-tightest.ensures c.operators.left.counted
           ∙ was_read (c.right.ensures.reads (kind_at ts) another (λ r. followed j (c.args.limit - j) h l next (trees.binary (trees.place_of a) op a r)) (operator_first c.operators.tightest c.args.limit ts op q)) c.in_ok-front.ensures.read
-          ∙ ap (λ e. run c.right.new.self.edition 250 (followed j (c.args.limit - j) h l next e) (left c.right.new.self)) (sym (c.in_ok-left.ensures.expr
+          ∙ ap (λ e. run_parser c.right.new.self.edition 250 (followed j (c.args.limit - j) h l next e) (left c.right.new.self)) (sym (c.in_ok-left.ensures.expr
           ∙ ap (λ o. trees.binary (trees.place_of (expr_of o.expr)) op (expr_of o.expr) (expr_of c.in_ok-front.right.expr)) c.in_ok-front.ensures.first));
       within = omega (arith, (operator_within c.operators.tightest c.args.limit ts op q).1, c.tighter-tightest.ensures);
       fits = omega (arith, on_read (l + c.operators.left.height ≤ 250) c.right.ensures.need c.in_ok-front.ensures.read, c.in_ok-left.ensures.height, if_read (λ e. l + 1 + e.height ≤ 251) c.right.ensures.fits c.in_ok-front.ensures.read, ap (λ o. o.height) c.in_ok-front.ensures.first);
@@ -206,7 +206,7 @@ enclosed-returns-clause-reads t c = λ next.
     record {
       by = (c.in_ok-front.ensures.reads (λ p e. token m.last 0 (expected_of m.end) (λ _. next p e))).by
           ∙ was_read (c.expect.ensures.reads (λ _. next f.0 (expr_of f.1.expr))) c.in_ok-enclosed.ensures.read
-          ∙ ap (λ r. run c.expect.new.self.edition 250 (next r.0 (expr_of r.1.expr)) (left c.expect.new.self)) (sym c.in_ok-enclosed.ensures.first);
+          ∙ ap (λ r. run_parser c.expect.new.self.edition 250 (next r.0 (expr_of r.1.expr)) (left c.expect.new.self)) (sym c.in_ok-enclosed.ensures.first);
     }
 
 -- signs
@@ -318,7 +318,7 @@ converted-returns-clause-reads t c = λ next.
     record {
       by = (c.in_ok-inner.ensures.reads (λ _. converted_value next)).by
           ∙ was_read (c.converted_end.ensures.reads (next (expr_of c.in_ok-inner.inner.expr))) c.in_ok-value.ensures.read
-          ∙ ap (λ v. run c.converted_end.new.self.edition 250 (next (expr_of v.expr)) (left c.converted_end.new.self)) (sym c.in_ok-value.ensures.first);
+          ∙ ap (λ v. run_parser c.converted_end.new.self.edition 250 (next (expr_of v.expr)) (left c.converted_end.new.self)) (sym c.in_ok-value.ensures.first);
     }
 
 -- elements of a literal of a named type
@@ -331,4 +331,4 @@ named_literal-returns-in-Some-clause-reads t c = λ a named next.
     let l = c.args.level in
     let is : Some (type_of c.in-Some.a.type_expr) ≡ Some a = c.in-Some.ensures.expr ∙ named in
     let same : type_of c.in-Some.a.type_expr ≡ a = cc (is) in
-    then_reads c.literal.result (ap (λ b. run c.args.self.now.edition 250 (token opening_brace (l + 1) another (behind_brace l b next)) (left c.args.self.now)) (sym same)) (c.literal.ensures.reads next)
+    then_reads c.literal.result (ap (λ b. run_parser c.args.self.now.edition 250 (token opening_brace (l + 1) another (behind_brace l b next)) (left c.args.self.now)) (sym same)) (c.literal.ensures.reads next)

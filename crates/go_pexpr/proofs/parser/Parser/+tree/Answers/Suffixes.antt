@@ -5,7 +5,7 @@ use Rattle.go_pexpr.specs.declared.operators.Beginning.TheVariants as begins
 use Rattle.go_ast.specs.Trees as trees
 use Rattle.go_ast.specs.Expected.{another, an_index, an_index_end}
 use Rattle.go_ast.specs.Grammar.{opening, opening_bracket, period, Lexeme, closing_bracket, colon}
-use Rattle.go_ast.specs.Machine.{token, expr, suffixes, arguments, run, type, State, operands, tails, behind_colon}
+use Rattle.go_ast.specs.Machine.{token, expr, suffixes, arguments, run_parser, Reader, operands, tails, behind_colon}
 use Rattle.go_ast.specs.Views.{expr_of, bound_of}
 use Rattle.go_pexpr.specs.declared.brackets.Inside.{Inside}
 use Rattle.go_pexpr.specs.declared.brackets.Inside.TheVariants.{At, Part}
@@ -47,7 +47,7 @@ indexed-returns-in-At-clause-reads t c = λ next.
     let same = ap (λ o. expr_of o.expr) c.in_ok-operand.ensures.first in
     then_makes c.index.result (index_end next e i)
     (was_read (c.in_brackets.ensures.reads e next) c.in_ok-operand.ensures.read
-    ∙ ap (λ (x : Inside). run c.in_brackets.new.self.edition 250 (next (inside_of e x)) (left c.in_brackets.new.self)) c.in-At.is)
+    ∙ ap (λ (x : Inside). run_parser c.in_brackets.new.self.edition 250 (next (inside_of e x)) (left c.in_brackets.new.self)) c.in-At.is)
     (IfOk-weaker c.index.result _ _ (λ x h. ap next (h ∙ ap (λ o. trees.index (trees.place_of o) o i) same)) c.index.ensures.expr) c.index.ensures.err
 
 pub indexed-returns-in-Part-clause-reads : goal.indexed-returns-in-Part-clause-reads
@@ -58,7 +58,7 @@ indexed-returns-in-Part-clause-reads t c = λ next.
     let same = ap (λ o. expr_of o.expr) c.in_ok-operand.ensures.first in
     then_makes c.cut.result (cut_of next e a b)
     (was_read (c.in_brackets.ensures.reads e next) c.in_ok-operand.ensures.read
-    ∙ ap (λ (x : Inside). run c.in_brackets.new.self.edition 250 (next (inside_of e x)) (left c.in_brackets.new.self)) c.in-Part.is)
+    ∙ ap (λ (x : Inside). run_parser c.in_brackets.new.self.edition 250 (next (inside_of e x)) (left c.in_brackets.new.self)) c.in-Part.is)
     (IfOk-weaker c.cut.result _ _ (λ x h. ap next (h ∙ ap (λ o. trees.cut (trees.place_of o) o a b) same)) c.cut.ensures.expr) c.cut.ensures.err
 
 pub indexed-returns-in-At-clause-fits : goal.indexed-returns-in-At-clause-fits
@@ -85,7 +85,7 @@ pub in_brackets-returns-in_err-accept_newer-clause-reads : goal.in_brackets-retu
 in_brackets-returns-in_err-accept_newer-clause-reads t c = λ e next.
     let l = c.args.level in
     let some = λ (u : Lexeme). behind_colon l e trees.no_bound next in
-    let none : State = expr 5 false (l + 1) an_index (index_ends l e next) in
+    let none : Reader = expr 5 false (l + 1) an_index (index_ends l e next) in
     then_fails (c.in_ok-expect.ensures.reads (behind_index l e next)).by
     (c.in_err-accept_newer.ensures.reads an_index some none (refuses_at _ none an_index colon (λ text q. refl))) c.from_residual-in_err-accept_newer.ensures.1
 
@@ -93,7 +93,7 @@ pub in_brackets-returns-in_err-high-clause-reads : goal.in_brackets-returns-in_e
 in_brackets-returns-in_err-high-clause-reads t c = λ e next.
     let l = c.args.level in
     let some = λ (u : Lexeme). behind_colon l e trees.no_bound next in
-    let none : State = expr 5 false (l + 1) an_index (index_ends l e next) in
+    let none : Reader = expr 5 false (l + 1) an_index (index_ends l e next) in
     let newer = c.in_ok-accept_newer.ensures.reads an_index some none (refuses_at _ none an_index colon (λ text q. refl)) in
     then_fails ((c.in_ok-expect.ensures.reads (behind_index l e next)).by ∙ took newer c.in-Some.is) (c.in_err-high.ensures.reads e trees.no_bound next) c.from_residual-in_err-high.ensures.1
 
@@ -101,18 +101,18 @@ pub in_brackets-returns-in-Some-clause-reads : goal.in_brackets-returns-in-Some-
 in_brackets-returns-in-Some-clause-reads t c = λ e next.
     let l = c.args.level in
     let some = λ (u : Lexeme). behind_colon l e trees.no_bound next in
-    let none : State = expr 5 false (l + 1) an_index (index_ends l e next) in
+    let none : Reader = expr 5 false (l + 1) an_index (index_ends l e next) in
     let newer = c.in_ok-accept_newer.ensures.reads an_index some none (refuses_at _ none an_index colon (λ text q. refl)) in
     record {
       by = (c.in_ok-expect.ensures.reads (behind_index l e next)).by ∙ took newer c.in-Some.is ∙ (c.in_ok-high.ensures.reads e trees.no_bound next).by
-          ∙ ap (λ b. run c.high.new.self.edition 250 (cut_of next e b (bound_of c.in_ok-high.high.bound)) (left c.high.new.self)) (sym c.unbounded.ensures.bound);
+          ∙ ap (λ b. run_parser c.high.new.self.edition 250 (cut_of next e b (bound_of c.in_ok-high.high.bound)) (left c.high.new.self)) (sym c.unbounded.ensures.bound);
     }
 
 pub in_brackets-returns-in_err-first-clause-reads : goal.in_brackets-returns-in_err-first-clause-reads
 in_brackets-returns-in_err-first-clause-reads t c = λ e next.
     let l = c.args.level in
     let some = λ (u : Lexeme). behind_colon l e trees.no_bound next in
-    let none : State = expr 5 false (l + 1) an_index (index_ends l e next) in
+    let none : Reader = expr 5 false (l + 1) an_index (index_ends l e next) in
     let newer = c.in_ok-accept_newer.ensures.reads an_index some none (refuses_at _ none an_index colon (λ text q. refl)) in
     then_fails ((c.in_ok-expect.ensures.reads (behind_index l e next)).by ∙ missed newer c.in_default.is) (c.in_err-first.ensures.reads (index_ends l e next)) c.from_residual-in_err-first.ensures.1
 
@@ -120,7 +120,7 @@ pub in_brackets-returns-clause-reads : goal.in_brackets-returns-clause-reads
 in_brackets-returns-clause-reads t c = λ e next.
     let l = c.args.level in
     let some = λ (u : Lexeme). behind_colon l e trees.no_bound next in
-    let none : State = expr 5 false (l + 1) an_index (index_ends l e next) in
+    let none : Reader = expr 5 false (l + 1) an_index (index_ends l e next) in
     let newer = c.in_ok-accept_newer.ensures.reads an_index some none (refuses_at _ none an_index colon (λ text q. refl)) in
     then_reads c.index_end.result
     ((c.in_ok-expect.ensures.reads (behind_index l e next)).by ∙ missed newer c.in_default.is ∙ (c.in_ok-first.ensures.reads (index_ends l e next)).by)
@@ -130,7 +130,7 @@ pub index_end-returns-in_err-one-clause-reads : goal.index_end-returns-in_err-on
 index_end-returns-in_err-one-clause-reads t c = λ e next.
     let i = expr_of c.args.first.expr in
     let some = λ (u : Lexeme). behind_colon c.args.level e (trees.bound i) next in
-    let none : State = token closing_bracket 0 an_index_end (λ _. index_end next e i) in
+    let none : Reader = token closing_bracket 0 an_index_end (λ _. index_end next e i) in
     then_fails refl (was_failing (c.accept_newer.ensures.reads an_index_end some none (refuses_at _ none an_index_end colon (λ text q. refl))) c.in_err-one.ensures.err)
     c.from_residual.ensures.1
 
@@ -138,7 +138,7 @@ pub index_end-returns-in_err-low-clause-reads : goal.index_end-returns-in_err-lo
 index_end-returns-in_err-low-clause-reads t c = λ e next.
     let i = expr_of c.args.first.expr in
     let some = λ (u : Lexeme). behind_colon c.args.level e (trees.bound i) next in
-    let none : State = token closing_bracket 0 an_index_end (λ _. index_end next e i) in
+    let none : Reader = token closing_bracket 0 an_index_end (λ _. index_end next e i) in
     let newer = c.accept_newer.ensures.reads an_index_end some none (refuses_at _ none an_index_end colon (λ text q. refl)) in
     then_fails (took_beside newer c.in_ok-one.ensures.read c.in-Some.is) (was_failing (c.high.ensures.reads e (trees.bound i) next) c.in_err-low.ensures.err)
     c.from_residual-in_err-low.ensures.1
@@ -147,19 +147,19 @@ pub index_end-returns-in-Some-clause-reads : goal.index_end-returns-in-Some-clau
 index_end-returns-in-Some-clause-reads t c = λ e next.
     let i = expr_of c.args.first.expr in
     let some = λ (u : Lexeme). behind_colon c.args.level e (trees.bound i) next in
-    let none : State = token closing_bracket 0 an_index_end (λ _. index_end next e i) in
+    let none : Reader = token closing_bracket 0 an_index_end (λ _. index_end next e i) in
     let newer = c.accept_newer.ensures.reads an_index_end some none (refuses_at _ none an_index_end colon (λ text q. refl)) in
     let low = ap (λ b. bound_of b.bound) c.in_ok-low.ensures.first ∙ c.in_ok-bounded.ensures.bound ∙ ap (λ x. trees.bound (expr_of x.expr)) c.in_ok-one.ensures.first in
     record {
       by = took_beside newer c.in_ok-one.ensures.read c.in-Some.is ∙ was_read (c.high.ensures.reads e (trees.bound i) next) c.in_ok-low.ensures.read
-          ∙ ap (λ b. run c.high.new.self.edition 250 (cut_of next e b (bound_of c.in_ok-low.high.bound)) (left c.high.new.self)) (sym low);
+          ∙ ap (λ b. run_parser c.high.new.self.edition 250 (cut_of next e b (bound_of c.in_ok-low.high.bound)) (left c.high.new.self)) (sym low);
     }
 
 pub index_end-returns-in_err-at-clause-reads : goal.index_end-returns-in_err-at-clause-reads
 index_end-returns-in_err-at-clause-reads t c = λ e next.
     let i = expr_of c.args.first.expr in
     let some = λ (u : Lexeme). behind_colon c.args.level e (trees.bound i) next in
-    let none : State = token closing_bracket 0 an_index_end (λ _. index_end next e i) in
+    let none : Reader = token closing_bracket 0 an_index_end (λ _. index_end next e i) in
     let newer = c.accept_newer.ensures.reads an_index_end some none (refuses_at _ none an_index_end colon (λ text q. refl)) in
     then_fails (missed_beside newer c.in_ok-one.ensures.read c.in_default.is) (was_failing (c.expect.ensures.reads (λ _. index_end next e i)) c.in_err-at.ensures.err)
     c.from_residual-in_err-at.ensures.1
@@ -168,38 +168,38 @@ pub index_end-returns-clause-reads : goal.index_end-returns-clause-reads
 index_end-returns-clause-reads t c = λ e next.
     let i = expr_of c.args.first.expr in
     let some = λ (u : Lexeme). behind_colon c.args.level e (trees.bound i) next in
-    let none : State = token closing_bracket 0 an_index_end (λ _. index_end next e i) in
+    let none : Reader = token closing_bracket 0 an_index_end (λ _. index_end next e i) in
     let newer = c.accept_newer.ensures.reads an_index_end some none (refuses_at _ none an_index_end colon (λ text q. refl)) in
     record {
       by = missed_beside newer c.in_ok-one.ensures.read c.in_default.is ∙ was_read (c.expect.ensures.reads (λ _. index_end next e i)) c.in_ok-at.ensures.read
-          ∙ ap (λ x. run c.expect.new.self.edition 250 (index_end next e (expr_of x.expr)) (left c.expect.new.self)) (sym (c.in_ok-at.ensures.first ∙ c.in_ok-one.ensures.first));
+          ∙ ap (λ x. run_parser c.expect.new.self.edition 250 (index_end next e (expr_of x.expr)) (left c.expect.new.self)) (sym (c.in_ok-at.ensures.first ∙ c.in_ok-one.ensures.first));
     }
 
 pub high-returns-in_err-accept-clause-reads : goal.high-returns-in_err-accept-clause-reads
 high-returns-in_err-accept-clause-reads t c = λ e low next.
     let some = λ (u : Lexeme). cut_of next e low trees.no_bound in
-    let none : State = expr 5 false (c.args.level + 1) an_index (high_end next e low) in
+    let none : Reader = expr 5 false (c.args.level + 1) an_index (high_end next e low) in
     then_fails refl (c.in_err-accept.ensures.reads some none) c.from_residual.ensures.1
 
 pub high-returns-in-Some-clause-reads : goal.high-returns-in-Some-clause-reads
 high-returns-in-Some-clause-reads t c = λ e low next.
     let some = λ (u : Lexeme). cut_of next e low trees.no_bound in
-    let none : State = expr 5 false (c.args.level + 1) an_index (high_end next e low) in
+    let none : Reader = expr 5 false (c.args.level + 1) an_index (high_end next e low) in
     record {
       by = took (c.in_ok-accept.ensures.reads some none) c.in-Some.is
-          ∙ ap (λ b. run c.accept.new.self.edition 250 (cut_of next e low b) (left c.accept.new.self)) (sym c.unbounded.ensures.bound);
+          ∙ ap (λ b. run_parser c.accept.new.self.edition 250 (cut_of next e low b) (left c.accept.new.self)) (sym c.unbounded.ensures.bound);
     }
 
 pub high-returns-in_err-first-clause-reads : goal.high-returns-in_err-first-clause-reads
 high-returns-in_err-first-clause-reads t c = λ e low next.
     let some = λ (u : Lexeme). cut_of next e low trees.no_bound in
-    let none : State = expr 5 false (c.args.level + 1) an_index (high_end next e low) in
+    let none : Reader = expr 5 false (c.args.level + 1) an_index (high_end next e low) in
     then_fails (missed (c.in_ok-accept.ensures.reads some none) c.in_default.is) (c.in_err-first.ensures.reads (high_end next e low)) c.from_residual-in_err-first.ensures.1
 
 pub high-returns-in_err-at-clause-reads : goal.high-returns-in_err-at-clause-reads
 high-returns-in_err-at-clause-reads t c = λ e low next.
     let some = λ (u : Lexeme). cut_of next e low trees.no_bound in
-    let none : State = expr 5 false (c.args.level + 1) an_index (high_end next e low) in
+    let none : Reader = expr 5 false (c.args.level + 1) an_index (high_end next e low) in
     let j = expr_of c.in_ok-first.first.expr in
     then_fails (missed (c.in_ok-accept.ensures.reads some none) c.in_default.is ∙ (c.in_ok-first.ensures.reads (high_end next e low)).by)
     (was_failing (c.expect.ensures.reads (λ _. cut_of next e low (trees.bound j))) c.in_err-at.ensures.err) c.from_residual-in_err-at.ensures.1
@@ -207,7 +207,7 @@ high-returns-in_err-at-clause-reads t c = λ e low next.
 pub high-returns-clause-reads : goal.high-returns-clause-reads
 high-returns-clause-reads t c = λ e low next.
     let some = λ (u : Lexeme). cut_of next e low trees.no_bound in
-    let none : State = expr 5 false (c.args.level + 1) an_index (high_end next e low) in
+    let none : Reader = expr 5 false (c.args.level + 1) an_index (high_end next e low) in
     let j = expr_of c.in_ok-first.first.expr in
     let same = ap (λ x. trees.bound (expr_of x.expr)) c.in_ok-at.ensures.first in
     then_makes c.bound.result (cut_of next e low (trees.bound j))
@@ -231,7 +231,7 @@ suffixes-returns-in_err-front-in-Selector-clause-reads t c = λ next.
     let ts = left c.suffixes.self in
     then_fails (c.suffixes.invariant.reads next
     ∙ as_selector c.suffixes.self.edition c.args.header c.args.level e next _ ts (sym c.suffix.ensures ∙ c.in-Some.is ∙ ap Some c.in-Selector.is)
-    ∙ ap (λ m. run c.suffixes.self.edition 250 (token period (c.args.level + m) another (behind_selector e (λ x. suffixes c.args.header c.args.level x next))) ts) (sym c.suffixes.front.counted))
+    ∙ ap (λ m. run_parser c.suffixes.self.edition 250 (token period (c.args.level + m) another (behind_selector e (λ x. suffixes c.args.header c.args.level x next))) ts) (sym c.suffixes.front.counted))
     (c.in_err-front-in-Selector.ensures.reads (λ x. suffixes c.args.header c.args.level x next)) c.from_residual.ensures.1
 
 pub suffixes-suffixes-preserved-in_ok-front-in-Selector : goal.suffixes-suffixes-preserved-in_ok-front-in-Selector
@@ -242,7 +242,7 @@ suffixes-suffixes-preserved-in_ok-front-in-Selector t c =
       reads = λ next.
           c.suffixes.invariant.reads next
           ∙ as_selector c.suffixes.self.edition c.args.header c.args.level e next _ ts (sym c.suffix.ensures ∙ c.in-Some.is ∙ ap Some c.in-Selector.is)
-          ∙ ap (λ m. run c.suffixes.self.edition 250 (token period (c.args.level + m) another (behind_selector e (λ x. suffixes c.args.header c.args.level x next))) ts) (sym c.suffixes.front.counted)
+          ∙ ap (λ m. run_parser c.suffixes.self.edition 250 (token period (c.args.level + m) another (behind_selector e (λ x. suffixes c.args.header c.args.level x next))) ts) (sym c.suffixes.front.counted)
           ∙ (c.in_ok-front-in-Selector.ensures.reads (λ x. suffixes c.args.header c.args.level x next)).by;
       fits = c.in_ok-front-in-Selector.ensures.fits;
       shorter = omega (arith, c.suffixes.invariant.shorter, c.in_ok-front-in-Selector.ensures.shorter);
@@ -254,7 +254,7 @@ suffixes-returns-in_err-front-in-Index-clause-reads t c = λ next.
     let ts = left c.suffixes.self in
     then_fails (c.suffixes.invariant.reads next
     ∙ as_index c.suffixes.self.edition c.args.header c.args.level e next _ ts (sym c.suffix.ensures ∙ c.in-Some.is ∙ ap Some c.in-Index.is)
-    ∙ ap (λ m. run c.suffixes.self.edition 250 (token opening_bracket (c.args.level + m) another (behind_index c.args.level e (λ x. suffixes c.args.header c.args.level x next))) ts) (sym c.suffixes.front.counted))
+    ∙ ap (λ m. run_parser c.suffixes.self.edition 250 (token opening_bracket (c.args.level + m) another (behind_index c.args.level e (λ x. suffixes c.args.header c.args.level x next))) ts) (sym c.suffixes.front.counted))
     (c.in_err-front-in-Index.ensures.reads (λ x. suffixes c.args.header c.args.level x next)) c.from_residual-in_err-front-in-Index.ensures.1
 
 pub suffixes-suffixes-preserved-in_ok-front-in-Index : goal.suffixes-suffixes-preserved-in_ok-front-in-Index
@@ -265,7 +265,7 @@ suffixes-suffixes-preserved-in_ok-front-in-Index t c =
       reads = λ next.
           c.suffixes.invariant.reads next
           ∙ as_index c.suffixes.self.edition c.args.header c.args.level e next _ ts (sym c.suffix.ensures ∙ c.in-Some.is ∙ ap Some c.in-Index.is)
-          ∙ ap (λ m. run c.suffixes.self.edition 250 (token opening_bracket (c.args.level + m) another (behind_index c.args.level e (λ x. suffixes c.args.header c.args.level x next))) ts) (sym c.suffixes.front.counted)
+          ∙ ap (λ m. run_parser c.suffixes.self.edition 250 (token opening_bracket (c.args.level + m) another (behind_index c.args.level e (λ x. suffixes c.args.header c.args.level x next))) ts) (sym c.suffixes.front.counted)
           ∙ (c.in_ok-front-in-Index.ensures.reads (λ x. suffixes c.args.header c.args.level x next)).by;
       fits = c.in_ok-front-in-Index.ensures.fits;
       shorter = omega (arith, c.suffixes.invariant.shorter, c.in_ok-front-in-Index.ensures.shorter);
@@ -277,7 +277,7 @@ suffixes-returns-in_err-front-in-Call-clause-reads t c = λ next.
     let ts = left c.suffixes.self in
     then_fails (c.suffixes.invariant.reads next
     ∙ as_call c.suffixes.self.edition c.args.header c.args.level e next _ ts (sym c.suffix.ensures ∙ c.in-Some.is ∙ ap Some c.in-Call.is)
-    ∙ ap (λ m. run c.suffixes.self.edition 250 (token opening (c.args.level + m) another (behind_call c.args.level e (λ x. suffixes c.args.header c.args.level x next))) ts) (sym c.suffixes.front.counted))
+    ∙ ap (λ m. run_parser c.suffixes.self.edition 250 (token opening (c.args.level + m) another (behind_call c.args.level e (λ x. suffixes c.args.header c.args.level x next))) ts) (sym c.suffixes.front.counted))
     (c.in_err-front-in-Call.ensures.reads (λ x. suffixes c.args.header c.args.level x next)) c.from_residual-in_err-front-in-Call.ensures.1
 
 pub suffixes-suffixes-preserved-in_ok-front-in-Call : goal.suffixes-suffixes-preserved-in_ok-front-in-Call
@@ -288,7 +288,7 @@ suffixes-suffixes-preserved-in_ok-front-in-Call t c =
       reads = λ next.
           c.suffixes.invariant.reads next
           ∙ as_call c.suffixes.self.edition c.args.header c.args.level e next _ ts (sym c.suffix.ensures ∙ c.in-Some.is ∙ ap Some c.in-Call.is)
-          ∙ ap (λ m. run c.suffixes.self.edition 250 (token opening (c.args.level + m) another (behind_call c.args.level e (λ x. suffixes c.args.header c.args.level x next))) ts) (sym c.suffixes.front.counted)
+          ∙ ap (λ m. run_parser c.suffixes.self.edition 250 (token opening (c.args.level + m) another (behind_call c.args.level e (λ x. suffixes c.args.header c.args.level x next))) ts) (sym c.suffixes.front.counted)
           ∙ (c.in_ok-front-in-Call.ensures.reads (λ x. suffixes c.args.header c.args.level x next)).by;
       fits = c.in_ok-front-in-Call.ensures.fits;
       shorter = omega (arith, c.suffixes.invariant.shorter, c.in_ok-front-in-Call.ensures.shorter);

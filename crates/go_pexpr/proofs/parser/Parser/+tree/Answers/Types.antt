@@ -8,7 +8,7 @@ use Rattle.go_scan.specs.declared.keyword.Keyword.TheVariants as keywords
 use Rattle.go_ast.specs.Trees as trees
 use Rattle.go_ast.specs.Expected.{a_type, a_length}
 use Rattle.go_ast.specs.Grammar.{opening_bracket, Lexeme, closing_bracket}
-use Rattle.go_ast.specs.Machine.{expr, names, fields, keyword, behind_struct, run, type, State, behind_bracket}
+use Rattle.go_ast.specs.Machine.{expr, names, fields, keyword, behind_struct, run_parser, type, Reader, behind_bracket}
 use Rattle.go_ast.specs.Views.{type_of, expr_of}
 use Rattle.go_pexpr.specs.Reads.{left, expected_of}
 use Rattle.go_pexpr.proofs.Reading.{then_reads, then_fails, then_makes, then_refuses, was_read, was_failing, took, missed}
@@ -24,7 +24,7 @@ bracket_type-returns-in_err-accept_newer-clause-reads t c = λ next.
     let l = c.args.level in
     let p = c.in_ok-bracket.bracket.place in
     let some = λ (u : Lexeme). type (l + 1) a_type (slice_of next p) in
-    let none : State = expr 5 false (l + 1) a_length (sized_end l next p) in
+    let none : Reader = expr 5 false (l + 1) a_length (sized_end l next p) in
     then_fails (c.in_ok-bracket.ensures.reads (behind_bracket l next)).by
     (c.in_err-accept_newer.ensures.reads a_length some none (refuses_at _ none a_length closing_bracket (λ text q. refl))) c.from_residual-in_err-accept_newer.ensures.1
 
@@ -33,7 +33,7 @@ bracket_type-returns-in_err-item-clause-reads t c = λ next.
     let l = c.args.level in
     let p = c.in_ok-bracket.bracket.place in
     let some = λ (u : Lexeme). type (l + 1) a_type (slice_of next p) in
-    let none : State = expr 5 false (l + 1) a_length (sized_end l next p) in
+    let none : Reader = expr 5 false (l + 1) a_length (sized_end l next p) in
     let newer = c.in_ok-accept_newer.ensures.reads a_length some none (refuses_at _ none a_length closing_bracket (λ text q. refl)) in
     then_fails ((c.in_ok-bracket.ensures.reads (behind_bracket l next)).by ∙ took newer c.in-Some.is) (c.in_err-item.ensures.reads (slice_of next p)) c.from_residual-in_err-item.ensures.1
 
@@ -42,7 +42,7 @@ bracket_type-returns-in-Some-clause-reads t c = λ next.
     let l = c.args.level in
     let p = c.in_ok-bracket.bracket.place in
     let some = λ (u : Lexeme). type (l + 1) a_type (slice_of next p) in
-    let none : State = expr 5 false (l + 1) a_length (sized_end l next p) in
+    let none : Reader = expr 5 false (l + 1) a_length (sized_end l next p) in
     let newer = c.in_ok-accept_newer.ensures.reads a_length some none (refuses_at _ none a_length closing_bracket (λ text q. refl)) in
     then_makes c.slice.result (next (trees.slice p (type_of c.in_ok-item.item.type_expr)))
     ((c.in_ok-bracket.ensures.reads (behind_bracket l next)).by ∙ took newer c.in-Some.is ∙ (c.in_ok-item.ensures.reads (slice_of next p)).by)
@@ -53,7 +53,7 @@ bracket_type-returns-in_err-first-clause-reads t c = λ next.
     let l = c.args.level in
     let p = c.in_ok-bracket.bracket.place in
     let some = λ (u : Lexeme). type (l + 1) a_type (slice_of next p) in
-    let none : State = expr 5 false (l + 1) a_length (sized_end l next p) in
+    let none : Reader = expr 5 false (l + 1) a_length (sized_end l next p) in
     let newer = c.in_ok-accept_newer.ensures.reads a_length some none (refuses_at _ none a_length closing_bracket (λ text q. refl)) in
     then_fails ((c.in_ok-bracket.ensures.reads (behind_bracket l next)).by ∙ missed newer c.in_default.is) (c.in_err-first.ensures.reads (sized_end l next p)) c.from_residual-in_err-first.ensures.1
 
@@ -63,7 +63,7 @@ bracket_type-returns-in_err-length-clause-reads t c = λ next.
     let p = c.in_ok-bracket.bracket.place in
     let e = expr_of c.in_ok-first.first.expr in
     let some = λ (u : Lexeme). type (l + 1) a_type (slice_of next p) in
-    let none : State = expr 5 false (l + 1) a_length (sized_end l next p) in
+    let none : Reader = expr 5 false (l + 1) a_length (sized_end l next p) in
     let newer = c.in_ok-accept_newer.ensures.reads a_length some none (refuses_at _ none a_length closing_bracket (λ text q. refl)) in
     then_fails ((c.in_ok-bracket.ensures.reads (behind_bracket l next)).by ∙ missed newer c.in_default.is ∙ (c.in_ok-first.ensures.reads (sized_end l next p)).by)
     (was_failing (c.expect-end.ensures.reads (λ _. item_of l next p e)) c.in_err-length.ensures.err) c.from_residual-in_err-length.ensures.1
@@ -74,7 +74,7 @@ bracket_type-returns-in_err-sized-clause-reads t c = λ next.
     let p = c.in_ok-bracket.bracket.place in
     let e = expr_of c.in_ok-first.first.expr in
     let some = λ (u : Lexeme). type (l + 1) a_type (slice_of next p) in
-    let none : State = expr 5 false (l + 1) a_length (sized_end l next p) in
+    let none : Reader = expr 5 false (l + 1) a_length (sized_end l next p) in
     let newer = c.in_ok-accept_newer.ensures.reads a_length some none (refuses_at _ none a_length closing_bracket (λ text q. refl)) in
     then_fails ((c.in_ok-bracket.ensures.reads (behind_bracket l next)).by ∙ missed newer c.in_default.is ∙ (c.in_ok-first.ensures.reads (sized_end l next p)).by
     ∙ was_read (c.expect-end.ensures.reads (λ _. item_of l next p e)) c.in_ok-length.ensures.read)
@@ -88,7 +88,7 @@ bracket_type-returns-clause-reads t c = λ next.
     let a = type_of c.in_ok-sized.item.type_expr in
     let same = ap (λ x. expr_of x.expr) (c.in_ok-sized.ensures.first ∙ c.in_ok-length.ensures.first) in
     let some = λ (u : Lexeme). type (l + 1) a_type (slice_of next p) in
-    let none : State = expr 5 false (l + 1) a_length (sized_end l next p) in
+    let none : Reader = expr 5 false (l + 1) a_length (sized_end l next p) in
     let newer = c.in_ok-accept_newer.ensures.reads a_length some none (refuses_at _ none a_length closing_bracket (λ text q. refl)) in
     then_makes c.array.result (next (trees.array p e a))
     ((c.in_ok-bracket.ensures.reads (behind_bracket l next)).by ∙ missed newer c.in_default.is ∙ (c.in_ok-first.ensures.reads (sized_end l next p)).by
@@ -115,7 +115,7 @@ struct_type-returns-clause-reads t c = λ next.
     record {
       by = (c.in_ok-word.ensures.reads (behind_struct c.args.level next)).by ∙ (c.in_ok-expect.ensures.reads (open_struct c.args.level next p)).by
           ∙ (c.in_ok-fields.ensures.reads (made_struct next p)).by
-          ∙ ap (λ a. run c.fields.new.self.edition 250 (next a) (left c.fields.new.self)) (sym c.structure.ensures.expr);
+          ∙ ap (λ a. run_parser c.fields.new.self.edition 250 (next a) (left c.fields.new.self)) (sym c.structure.ensures.expr);
     }
 
 -- a field

@@ -1,5 +1,0 @@
-use Rattle.ws_graph.proofs.KnownFiles.{told_text}
-use Rattle.ws_graph.proofs.known.has_name.Goals as goal
-
-pub returns : goal.returns
-returns c = told_text c.eq.result c.args.file.now.name c.name.result.now c.args.name.now c.name.ensures c.eq.ensures

@@ -1,9 +1,0 @@
-use Rattle.std.proofs.Common.{◌<◌, length, arith}
-use Rattle.ws_graph.specs.Discovery.{texts}
-use Rattle.ws_replica.proofs.PlannedTargets.{directories_next}
-use Rattle.ws_replica.proofs.openings.directories_at.Goals as goal
-
-pub loop-target-preserved : goal.loop-target-preserved
-loop-target-preserved c =
-    let within : c.loop-target.target-index < length c.args.targets.now = omega arith in
-    directories_next c.args.targets.now c.loop-target.target-index c.args.number (texts c.loop-target.directories.items) (texts c.add_directory.new.directories.items) within c.in_ok-add_directory.ensures c.loop-target.invariant

@@ -1,4 +1,0 @@
-use Rattle.ws_replica.proofs.telling.copy_of.Goals as goal
-
-pub returns : goal.returns
-returns c = λ i. (c.in_ok-path.ensures i, c.in_ok-verdict.ensures i)

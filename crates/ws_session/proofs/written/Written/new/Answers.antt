@@ -1,4 +1,0 @@
-use Rattle.ws_session.proofs.written.Written.new.Goals as goal
-
-pub returns : goal.returns
-returns c = let counts = c.new.ensures in let logs = c.new-2.ensures in λ i. record { counts = counts i; logs = logs i }
